@@ -25,7 +25,7 @@ mod steady_source;
 pub use all::{ReadStop, read_all, write_all};
 pub use buf::Buf;
 pub use failed::{Failed, NoMemory};
-pub use lists::{Bytes, Words};
+pub use lists::{Bytes, Sequence, Words};
 pub use mem_sink::MemSink;
 pub use mem_source::MemSource;
 pub use null_sink::NullSink;

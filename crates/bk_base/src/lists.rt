@@ -2,62 +2,38 @@ ghost use Rattle.std.specs.Prelude.{◌≡◌};
 
 use std::marker::Model;
 
-/// A list of bytes.
-#[derive(Drop, Debug)]
-pub struct Bytes {
-    items: Vec<u8>,
+/// A list over a vector, seen as its items in order.
+#[derive(Drop)]
+pub struct Sequence<T: Drop> {
+    items: Vec<T>,
 }
 
-impl Model for Bytes {
-    ghost use Rattle.std.specs.Prelude.{List, ℕ};
+impl<T: Drop> Model for Sequence<T> {
+    ghost use Rattle.std.specs.Prelude.{List};
 
-    ghost Value = { List ℕ };
+    ghost Value = { List T };
 
-    ghost view = { λ b. b.items.items };
+    ghost view = { λ s. s.items.items };
 }
 
-impl Bytes {
-    /// The list of these bytes.
-    pub fn from_vec(items: Vec<u8>) -> Bytes
+impl<T: Drop> Sequence<T> {
+    /// The list of these items.
+    pub fn from_vec(items: Vec<T>) -> Sequence<T>
         ensures { result ≡ items.items }
     {
-        Bytes { items }
+        Sequence { items }
     }
 
-    /// The bytes in order.
-    pub fn as_slice(&self) -> &[u8]
+    /// The items in order.
+    pub fn as_slice(&self) -> &[T]
         ensures { result.now ≡ self.now }
     {
         self.items.as_slice()
     }
 }
+
+/// A list of bytes.
+pub type Bytes = Sequence<u8>;
 
 /// A list of words of 16 bits.
-#[derive(Drop, Debug)]
-pub struct Words {
-    items: Vec<u16>,
-}
-
-impl Model for Words {
-    ghost use Rattle.std.specs.Prelude.{List, ℕ};
-
-    ghost Value = { List ℕ };
-
-    ghost view = { λ w. w.items.items };
-}
-
-impl Words {
-    /// The list of these words.
-    pub fn from_vec(items: Vec<u16>) -> Words
-        ensures { result ≡ items.items }
-    {
-        Words { items }
-    }
-
-    /// The words in order.
-    pub fn as_slice(&self) -> &[u16]
-        ensures { result.now ≡ self.now }
-    {
-        self.items.as_slice()
-    }
-}
+pub type Words = Sequence<u16>;
