@@ -1,0 +1,56 @@
+// A level, its class in a byte and its categories in a mask.
+
+ghost use Rattle.std.specs.Prelude.{◌≡◌};
+ghost use Rattle.std.proofs.Common.{rules};
+ghost use Rattle.std.specs.Cmp.Rules.{comparing};
+ghost use Rattle.bk_level.specs.Levels as model;
+
+use std::marker::Model;
+
+/// A class of 0 to 255 and a set of 16 categories, one for each bit of `cats`.
+///
+/// A clause sees it as its class and the list of its categories, which are the places of the mask's bits.
+#[derive(Clone, Copy, Debug)]
+pub struct Level {
+    pub class: u8,
+    pub cats: u16,
+}
+
+impl Model for Level {
+    ghost use Rattle.bk_level.specs.Levels.{Level as Labelled};
+
+    ghost Value = { Labelled };
+
+    ghost use Rattle.bk_level.specs.Masks.{level_of, FitsFields, fields_of, fields_of-level_of};
+
+    ghost view = { level_of };
+
+    ghost invariant = { FitsFields };
+
+    ghost inverse = { fields_of };
+
+    ghost inverse_ok = { fields_of-level_of };
+}
+
+impl PartialEq for Level {
+    ghost eq = { model.is_same_level };
+
+    ghost laws = { Prim.search (comparing, rules) };
+
+    fn eq(&self, other: &Level) -> bool {
+        self.class == other.class && self.cats == other.cats
+    }
+}
+
+impl Eq for Level {
+    ghost laws = { Prim.search (comparing, rules) };
+}
+
+impl Level {
+    /// Whether this level's class is at least the other's, and it has all of the other's categories.
+    pub fn dominates(self, other: Level) -> bool
+        ensures { result ≡ model.dominates self other }
+    {
+        other.class <= self.class && other.cats & self.cats == other.cats
+    }
+}

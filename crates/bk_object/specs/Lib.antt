@@ -1,0 +1,4 @@
+pub mod Modes
+pub mod Kinds
+pub mod Rows
+pub mod Pairs

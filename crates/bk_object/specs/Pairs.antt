@@ -1,0 +1,35 @@
+-- A row as the field of the code: two subjects in each byte.
+use Rattle.std.specs.Prelude.{◌≡◌, ℕ, ◌+◌, ◌*◌, ◌/◌, ◌%◌, List, [], ◌∷◌, length}
+use Rattle.std.proofs.Common.{refl, ap, arith}
+use Rattle.bk_object.specs.declared.modes.Modes.{Modes}
+use Rattle.bk_object.specs.declared.row.Row.TheInside.{Inside}
+
+-- two sets for each byte, that of its low four bits first
+abbrev pub split_pairs : List ℕ → List Modes
+split_pairs [] = []
+split_pairs (pair ∷ pairs) = record { 0 = pair % 16 } ∷ record { 0 = pair / 16 } ∷ split_pairs pairs
+
+abbrev pub joined_pairs : List Modes → List ℕ
+joined_pairs [] = []
+joined_pairs (low ∷ []) = low.0 ∷ []
+joined_pairs (low ∷ high ∷ sets) = (low.0 + 16 * high.0) ∷ joined_pairs sets
+
+abbrev pub sets_of : Inside → List Modes
+sets_of row = split_pairs row.pairs
+
+abbrev pub pairs_of : List Modes → Inside
+pairs_of sets = record { pairs = joined_pairs sets }
+
+pub record HasPairs (row : Inside) : Type 0 where
+  pub whole : length row.pairs ≡ 16
+
+joined_pairs-split_pairs : (pairs : List ℕ) → joined_pairs (split_pairs pairs) ≡ pairs
+joined_pairs-split_pairs [] = refl
+joined_pairs-split_pairs (pair ∷ pairs) = λ i. byte pair i ∷ joined_pairs-split_pairs pairs i
+  where
+    byte : (b : ℕ) → b % 16 + 16 * (b / 16) ≡ b
+    byte b = omega arith
+
+-- the bytes are got back from the sets
+pub pairs_of-sets_of : (row : Inside) → HasPairs row → pairs_of (sets_of row) ≡ row
+pairs_of-sets_of row is = λ i. record { pairs = joined_pairs-split_pairs row.pairs i }
