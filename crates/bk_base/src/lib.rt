@@ -21,6 +21,8 @@ mod source;
 mod std_sink;
 mod std_source;
 mod steady_source;
+#[cfg(test)]
+mod tests;
 
 pub use all::{ReadStop, read_all, write_all};
 pub use buf::Buf;
