@@ -1,5 +1,5 @@
 -- Levels: a class and a set of categories, and when one dominates another.
-use Rattle.std.specs.Prelude.{◌≡◌, ℕ, ◌≤◌, Bool, true, ◌&&◌, ◌==◌, nat_le, List, [], ◌∷◌, Contains, slice_index_or}
+use Rattle.std.specs.Prelude.{ℕ, ◌≤◌, Bool, ◌&&◌, ◌==◌, nat_le, List, [], Contains, slice_index_or}
 use Rattle.std.specs.List.{list_any, list_all}
 use Rattle.std.specs.Ordering.{on, eq_of_both}
 use Rattle.std.specs.Cmp.Lexicographic.{pointwise}
@@ -19,7 +19,7 @@ pub record Dominates (above below : Level) : Type 0 where
   pub categories : (category : ℕ) → HasCategory below category → HasCategory above category
 
 abbrev pub has_category : Level → ℕ → Bool
-has_category level category = list_any (λ c. c == category) level.categories
+has_category level category = list_any (λ c. category == c) level.categories
 
 -- `Dominates` as a test
 abbrev pub dominates : (above below : Level) → Bool

@@ -1,5 +1,5 @@
 -- A table of levels as the fields of the code: 64 places, of which the first ones are used.
-use Rattle.std.specs.Prelude.{◌≡◌, ℕ, ◌-◌, ◌≤◌, List, ◌++◌, length, take, drop, replicate}
+use Rattle.std.specs.Prelude.{◌≡◌, ◌-◌, ◌≤◌, List, ◌++◌, length, take, drop, replicate}
 use Rattle.std.specs.List.{IsDistinct}
 use Rattle.std.proofs.Common.{ap, ◌∙◌, sym, subst, length-take-le}
 use Rattle.std.proofs.lemmas.List.{take-append-drop}

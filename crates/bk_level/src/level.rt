@@ -1,6 +1,6 @@
 // A level, its class in a byte and its categories in a mask.
 
-ghost use Rattle.std.specs.Prelude.{◌≡◌};
+ghost use Rattle.std.specs.Prelude.{◌≡◌, ◌↔◌, ℕ, IsTrue};
 ghost use Rattle.std.proofs.Common.{rules};
 ghost use Rattle.std.specs.Cmp.Rules.{comparing};
 ghost use Rattle.bk_level.specs.Levels as model;
@@ -47,10 +47,34 @@ impl Eq for Level {
 }
 
 impl Level {
-    /// Whether this level's class is at least the other's, and it has all of the other's categories.
+    /// Whether this level's class is at least the other's, and it has all of the other's categories (MTR-2997).
     pub fn dominates(self, other: Level) -> bool
+        ensures value { result ≡ model.dominates self other }
+        ensures fact { IsTrue result ↔ model.Dominates self other }
+    {
+        self.has_at_least(other)
+    }
+
+    // The masks are compared: each bit of the other's is one of this one's.
+    fn has_at_least(self, other: Level) -> bool
         ensures { result ≡ model.dominates self other }
     {
         other.class <= self.class && other.cats & self.cats == other.cats
     }
+}
+
+/// Dominates is an order: reflexive, antisymmetric and transitive.
+pub fn law_order()
+    ensures reflexive { (a : model.Level) → model.Dominates a a }
+    ensures antisymmetric { (a b : model.Level) → model.Dominates a b → model.Dominates b a →
+        (a.class ≡ b.class) × ((category : ℕ) → model.HasCategory a category ↔ model.HasCategory b category) }
+    ensures transitive { (a b c : model.Level) → model.Dominates a b → model.Dominates b c → model.Dominates a c }
+{}
+
+/// Two levels that dominate each other are the same level.
+pub fn law_antisymmetric(a: Level, b: Level)
+    ensures { model.Dominates a b → model.Dominates b a → a ≡ b }
+{
+    let _ = &a.class;
+    let _ = &b.class;
 }

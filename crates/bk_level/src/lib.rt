@@ -9,5 +9,5 @@
 mod level;
 mod table;
 
-pub use level::Level;
+pub use level::{Level, law_antisymmetric, law_order};
 pub use table::{LevelNo, LevelTable};

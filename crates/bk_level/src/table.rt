@@ -1,6 +1,8 @@
 // The list of an image's levels, by whose places objects and subjects name theirs.
 
-ghost use Rattle.std.specs.Prelude.{◌≡◌, []};
+ghost use Rattle.std.specs.Prelude.{◌≡◌, ◌≤◌, ◌↔◌, [], ◌∷◌, ◌++◌, length, Contains, IsTrue, IsNone, OnOk, OnErr, slice_get};
+ghost use Rattle.std.specs.List.{list_any, IsDistinct};
+ghost use Rattle.bk_level.specs.Levels.{is_same_level};
 
 use crate::Level;
 use std::marker::Model;
@@ -38,4 +40,64 @@ impl Model for LevelTable {
     ghost inverse = { table_of };
 
     ghost inverse_ok = { table_of-levels_of };
+}
+
+impl LevelTable {
+    /// A table with no levels.
+    pub fn new() -> LevelTable
+        ensures { result ≡ [] }
+    {
+        LevelTable {
+            levels: [Level { class: 0, cats: 0 }; 64],
+            len: 0,
+        }
+    }
+
+    /// Gives the level the next number. A refusal changes nothing.
+    pub fn push(&mut self, level: Level) -> Result<(), LevelNo>
+        ensures ok { OnOk result (self.new ≡ self.old ++ level ∷ []) }
+        ensures err { OnErr result (self.new ≡ self.old) }
+
+        // Doubled goes before Full.
+        ensures doubled { (result ≡ Err LevelNo.Doubled) ↔ Contains self.old level }
+        ensures full { (result ≡ Err LevelNo.Full) ↔ ((length self.old ≡ 64) × ¬ Contains self.old level) }
+    {
+        if self.has(level) {
+            return Err(LevelNo::Doubled);
+        }
+        if self.len == 64 {
+            return Err(LevelNo::Full);
+        }
+        self.levels[self.len as usize] = level;
+        self.len += 1;
+        Ok(())
+    }
+
+    /// The level with that number: None exactly from the length on.
+    pub fn get(&self, n: u8) -> Option<Level>
+        ensures { result ≡ slice_get self.now n }
+    {
+        if n < self.len {
+            Some(self.levels[n as usize])
+        } else {
+            None
+        }
+    }
+
+    /// How many levels there are.
+    pub fn len(&self) -> u8
+        ensures value { result ≡ length self.now }
+        ensures few { length self.now ≤ 64 }
+        ensures distinct { IsDistinct is_same_level self.now }
+    {
+        self.len
+    }
+
+    // Whether the level stands in the table.
+    fn has(&self, level: Level) -> bool
+        ensures value { result ≡ list_any (λ other. is_same_level other level) self.now }
+        ensures fact { IsTrue result ↔ Contains self.now level }
+    {
+        self.levels[..self.len as usize].contains(&level)
+    }
 }
