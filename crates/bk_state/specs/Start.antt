@@ -13,9 +13,10 @@ use Rattle.bk_state.specs.declared.image.Hold.{Hold}
 use Rattle.bk_state.specs.declared.image.ObjectRec.{ObjectRec}
 use Rattle.bk_state.specs.declared.image.SubjectRec.{SubjectRec}
 use Rattle.bk_state.specs.declared.image.WindowRec.{WindowRec}
+use Rattle.bk_state.specs.declared.process.Clearance.{Clearance}
 use Rattle.bk_state.specs.declared.process.Process.{Process}
 use Rattle.bk_state.specs.declared.process.Status9.TheVariants.{Running}
-use Rattle.bk_state.specs.State.{State, Object, Contents, Children, Words, Messages, Typed, Clearance, Triple}
+use Rattle.bk_state.specs.State.{State, Object, Contents, Children, Words, Messages, Typed, Triple}
 
 -- the given words, and zeros up to 32 words a block
 abbrev pub padded : ℕ → List ℕ → List ℕ

@@ -15,4 +15,4 @@ pub use first::{FIRST_BACK, FIRST_FRONT};
 pub use image::{
     Hold, Holds, Image, ObjectRec, Objects, SubjectRec, Subjects, WindowRec, Windows,
 };
-pub use process::{Process, ProcessorStatus, Registers, Status9};
+pub use process::{Clearance, Process, ProcessorStatus, Registers, Status9};
