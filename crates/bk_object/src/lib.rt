@@ -13,5 +13,5 @@ mod row;
 
 pub use facts::{Facts, Slot};
 pub use kind::Kind;
-pub use modes::Modes;
+pub use modes::{Modes, law_modes};
 pub use row::Row;
