@@ -65,13 +65,16 @@ impl Entry {
         }
     }
 
-    /// Takes the oldest typed byte.
+    /// Takes the oldest typed byte of a line, or gives 0 where none waits.
     pub(crate) fn take_byte(&mut self) -> u8
-        requires { IsTrue (has_byte self.old.1.contents) }
         ensures byte { result ≡ byte_of self.old.1.contents }
         ensures left { self.new ≡ (self.old.0, record { facts = self.old.1.facts; contents = without_byte self.old.1.contents }) }
     {
-        self.typed.remove(0)
+        if self.has_byte() {
+            self.typed.remove(0)
+        } else {
+            0
+        }
     }
 
     /// Keeps the bytes typed on a line, if it is that line.

@@ -7,7 +7,10 @@
 //! Stands on: `bk_report`, `bk_system`.
 #![tactic(auto)]
 
+mod call;
 mod entry;
 mod first;
+mod kernel;
 mod tables;
+mod turn;
 
