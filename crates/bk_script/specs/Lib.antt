@@ -1,0 +1,4 @@
+pub mod Fault
+pub mod Fields
+pub mod Lines
+pub mod Script

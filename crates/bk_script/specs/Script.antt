@@ -1,0 +1,50 @@
+-- A script's text, and what holds of a script.
+use Rattle.std.specs.Prelude.{◌≡◌, ℕ, ◌*◌, ◌<◌, ◌≤◌, ◌^◌, ◌⊎◌, List, [], ◌∷◌, ◌++◌, length, flat_map, All, codes, decimal, Result, Ok, Err}
+use Rattle.hex.specs.Hex.{encode_lower}
+use Rattle.bk_script.specs.declared.fault.ScriptFault.{ScriptFault}
+use Rattle.bk_script.specs.declared.fault.ScriptStop.{ScriptStop}
+use Rattle.bk_script.specs.declared.fault.ScriptStop.TheVariants.{Bad, NoMemory}
+use Rattle.bk_system.specs.declared.TypedAt.{TypedAt}
+use Rattle.bk_system.specs.declared.Script.{Script}
+
+-- the line of a record: its slot, its line and its bytes in hexadecimal
+abbrev pub record_text : TypedAt → List ℕ
+record_text typed = decimal typed.slot ++ codes " " ++ decimal typed.line ++ codes " " ++ encode_lower typed.bytes ++ codes "\n"
+
+-- the text of a script
+unfoldable pub text_of : List TypedAt → ℕ → List ℕ
+text_of records slots = flat_map record_text records ++ codes "END " ++ decimal slots ++ codes "\n"
+
+-- a record is of a line of the image and of a slot of the script, and has 1 to 128 bytes
+pub record IsTyped (lines slots : ℕ) (typed : TypedAt) : Type 0 where
+  pub slot : typed.slot < slots
+  pub line : typed.line < lines
+  pub some : 1 ≤ length typed.bytes
+  pub short : length typed.bytes ≤ 128
+  pub bytes : All (λ b. b < 2 ^ 8) typed.bytes
+
+-- a record stands above another: its slot is greater, or its slot is the same and its line is greater
+abbrev pub IsAbove : TypedAt → TypedAt → Type 0
+IsAbove before after = (before.slot < after.slot) ⊎ ((before.slot ≡ after.slot) × (before.line < after.line))
+
+-- each record stands above the one before it
+abbrev pub IsInOrder : List TypedAt → Type 0
+IsInOrder [] = Unit {0}
+IsInOrder (one ∷ []) = Unit {0}
+IsInOrder (one ∷ two ∷ records) = IsAbove one two × IsInOrder (two ∷ records)
+
+-- what holds of the records and the number of slots, for an image of so many lines and turns
+pub record IsScript (lines turns : ℕ) (records : List TypedAt) (slots : ℕ) : Type 0 where
+  pub few : slots ≤ 65535
+  pub within : slots * turns ≤ 4194304
+  pub typed : All (IsTyped lines slots) records
+  pub order : IsInOrder records
+
+-- What was read is what the definition gives, unless memory ran out.
+abbrev pub Refuses : ScriptStop → Result (List TypedAt × ℕ) ScriptFault → Type 0
+Refuses (Bad fault) read = read ≡ Err fault
+Refuses NoMemory read = Unit {0}
+
+abbrev pub Gives : Result Script ScriptStop → Result (List TypedAt × ℕ) ScriptFault → Type 0
+Gives (Ok script) read = read ≡ Ok (script.typed, script.slots)
+Gives (Err stop) read = Refuses stop read

@@ -1,0 +1,135 @@
+ghost use Rattle.std.specs.Prelude.{◌≡◌, ◌+◌, ◌==◌, ◌<◌, ◌≤◌, ◌^◌, length, Ok, IfOk, IfErr};
+ghost use Rattle.std.specs.List.{slice_split};
+ghost use Rattle.bk_script.specs.Fault.{first_failing};
+ghost use Rattle.bk_script.specs.Lines.{follows, is_below, last, record_checks, end_checks, script_of};
+ghost use Rattle.bk_script.specs.Script.{Gives, Refuses};
+
+use crate::fault::{ScriptFault, ScriptKind, ScriptStop};
+use crate::line::{Line, cut, read_line};
+use bk_state::Image;
+use bk_system::{Script, TypedAt, TypedList};
+use std::alloc::Global;
+
+fn follows(before: &[TypedAt], slot: u32, line: u32) -> bool
+    ensures { result ≡ follows (last before.now) slot line }
+{
+    match before.last() {
+        None => true,
+        Some(record) => record.slot < slot || record.slot == slot && u32::from(record.line) < line,
+    }
+}
+
+fn is_below(before: &[TypedAt], slots: u32) -> bool
+    ensures { result ≡ is_below (last before.now) slots }
+{
+    match before.last() {
+        None => true,
+        Some(record) => record.slot < slots,
+    }
+}
+
+fn check_record(
+    at: u32,
+    lines: u8,
+    before: &[TypedAt],
+    slot: u32,
+    line: u32,
+) -> Result<(), ScriptFault>
+    ensures { result ≡ first_failing at (record_checks lines before.now slot line) }
+{
+    if 65534 < slot {
+        return Err(ScriptFault {
+            line: at,
+            kind: ScriptKind::Limit,
+        });
+    }
+    if u32::from(lines) <= line {
+        return Err(ScriptFault {
+            line: at,
+            kind: ScriptKind::Line,
+        });
+    }
+    if !follows(before, slot, line) {
+        return Err(ScriptFault {
+            line: at,
+            kind: ScriptKind::Order,
+        });
+    }
+    Ok(())
+}
+
+fn check_end(at: u32, turns: u16, before: &[TypedAt], slots: u32) -> Result<(), ScriptFault>
+    ensures { result ≡ first_failing at (end_checks turns before.now slots) }
+{
+    if 65535 < slots || 4194304 < u64::from(slots) * u64::from(turns) {
+        return Err(ScriptFault {
+            line: at,
+            kind: ScriptKind::Limit,
+        });
+    }
+    if !is_below(before, slots) {
+        return Err(ScriptFault {
+            line: at,
+            kind: ScriptKind::Slot,
+        });
+    }
+    Ok(())
+}
+
+fn bad(line: u32, kind: ScriptKind) -> ScriptStop
+    ensures { result ≡ ScriptStop.Bad (record { line = line; kind = kind }) }
+{
+    ScriptStop::Bad(ScriptFault { line, kind })
+}
+
+fn read_lines(alloc: Global, bytes: &[u8], lines: u8, turns: u16) -> Result<Script, ScriptStop>
+    ensures { Gives result (script_of lines turns bytes.now) }
+{
+    if bytes.len() > 1048576 {
+        return Err(bad(0, ScriptKind::Long));
+    }
+    let mut typed = Vec::new(alloc);
+    let mut at = 1;
+    let mut rest = bytes;
+    while let Some((text, more)) = cut(rest, b'\n') {
+        match read_line(alloc, text)? {
+            None => return Err(bad(at, ScriptKind::Form)),
+            Some(
+                Line::Record {
+                    slot,
+                    line,
+                    bytes: hex,
+                },
+            ) => {
+                check_record(at, lines, &typed, slot, line)?;
+                typed.push(TypedAt {
+                    slot,
+                    line: line as u8,
+                    bytes: hex,
+                })?;
+            }
+            Some(Line::Ends(slots)) => {
+                check_end(at, turns, &typed, slots)?;
+                return if more.is_empty() {
+                    Ok(Script {
+                        slots,
+                        typed: TypedList::from_vec(typed),
+                    })
+                } else {
+                    Err(bad(at + 1, ScriptKind::After))
+                };
+            }
+        }
+        at += 1;
+        rest = more;
+    }
+    Err(bad(at, ScriptKind::End))
+}
+
+/// The script that the bytes spell for an image, or its first fault. It takes memory for the records.
+pub fn read_script(alloc: Global, bytes: &[u8], image: &Image) -> Result<Script, ScriptStop>
+    ensures ok { IfOk result (λ script. script_of image.now.lines image.now.turns bytes.now ≡ Ok (script.typed, script.slots)) }
+    ensures bad { IfErr result (λ stop. Refuses stop (script_of image.now.lines image.now.turns bytes.now)) }
+{
+    read_lines(alloc, bytes, image.lines, image.turns)
+}

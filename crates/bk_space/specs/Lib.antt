@@ -1,0 +1,7 @@
+pub mod AddrSpace
+pub mod Counts
+pub mod Faults
+pub mod Registers
+pub mod Status
+pub mod Trail
+pub mod Undo

@@ -1,0 +1,84 @@
+-- The state that an image stands for.
+use Rattle.std.specs.Prelude.{ℕ, ◌-◌, ◌*◌, ◌==◌, Bool, true, false, List, [], ◌∷◌, ◌++◌, length, map, filter, flat_map, replicate, find as first, Option, Some, None, option_map, unwrap_or}
+use Rattle.std.specs.List.{range_with_len}
+use Rattle.std.specs.FinMap as finmap
+use Rattle.std.specs.FinSet as set
+use Rattle.bk_path.specs.Paths.{Path}
+use Rattle.bk_object.specs.Modes.{Mode, Read, Execute, Write, Append, has}
+use Rattle.bk_object.specs.declared.kind.Kind.{Kind}
+use Rattle.bk_object.specs.declared.kind.Kind.TheVariants.{Directory, Segment, Mailbox, Line}
+use Rattle.bk_object.specs.declared.modes.Modes.{Modes}
+use Rattle.bk_state.specs.declared.image.Image.{Image}
+use Rattle.bk_state.specs.declared.image.Hold.{Hold}
+use Rattle.bk_state.specs.declared.image.ObjectRec.{ObjectRec}
+use Rattle.bk_state.specs.declared.image.SubjectRec.{SubjectRec}
+use Rattle.bk_state.specs.declared.image.WindowRec.{WindowRec}
+use Rattle.bk_state.specs.declared.process.Clearance.{Clearance}
+use Rattle.bk_state.specs.declared.process.Process.{Process}
+use Rattle.bk_state.specs.declared.process.Status9.TheVariants.{Running}
+use Rattle.bk_state.specs.State.{State, Object, Contents, Children, Words, Messages, Typed, Triple}
+
+-- the given words, and zeros up to 32 words a block
+abbrev pub padded : ℕ → List ℕ → List ℕ
+padded blocks words = words ++ replicate (32 * blocks - length words) 0
+
+-- what an object of the kind holds at the start
+abbrev pub contents_from : Kind → (blocks : ℕ) → List ℕ → Contents
+contents_from Directory blocks words = Children
+contents_from Segment blocks words = Words (padded blocks words)
+contents_from Mailbox blocks words = Messages [] 0
+contents_from (Line n) blocks words = Typed []
+
+abbrev pub object_from : ObjectRec → Object
+object_from o = record { facts = o.facts; contents = contents_from o.facts.kind o.facts.blocks o.words }
+
+-- the path that the window of that number shows
+abbrev pub shown_in : List WindowRec → ℕ → Option Path
+shown_in windows n = option_map (λ w. w.path) (first (λ w. w.index == n) windows)
+
+-- a process at the start: the given registers, no trace bit and no condition codes, and it runs
+abbrev pub process_from : SubjectRec → Process
+process_from s = record {
+  registers = record {
+    general = s.regs; user = s.user_sp; supervisor = s.super_sp; pc = s.pc;
+    status = record { mode = s.mode; previous = s.previous; trace = false; flags = record { n = false; z = false; v = false; c = false } };
+  };
+  windows = map (shown_in s.windows) (range_with_len 0 32);
+  entries = s.entries;
+  status = Running;
+}
+
+abbrev pub clearance_from : SubjectRec → Clearance
+clearance_from s = record { greatest = s.f_s; current = s.f_c }
+
+-- the modes of a set
+abbrev pub modes_in : Modes → List Mode
+modes_in modes = filter (has modes) (Read ∷ Execute ∷ Write ∷ Append ∷ [])
+
+abbrev pub triples_from : Hold → List Triple
+triples_from h = map (λ x. (h.subject, h.path, x)) (modes_in h.modes)
+
+abbrev pub is_line : ℕ → Kind → Bool
+is_line n Directory = false
+is_line n Segment = false
+is_line n Mailbox = false
+is_line n (Line k) = k == n
+
+-- the number of the level of a line: that of its object
+abbrev pub line_level : List ObjectRec → ℕ → ℕ
+line_level objects n = unwrap_or (option_map (λ o. o.facts.level) (first (λ o. is_line n o.facts.kind) objects)) 0
+
+-- the image's objects, rows and holds; empty queues; each process with its registers, running
+unfoldable pub state_of : Image → State
+state_of image = record {
+  fixed = record {
+    levels = image.levels;
+    subjects = map clearance_from image.subjects;
+    lines = map (line_level image.objects) (range_with_len 0 image.lines);
+    turns = image.turns;
+    schedule = image.schedule;
+  };
+  objects = finmap.from_entries (map (λ o. (o.path, object_from o)) image.objects);
+  access = set.from_list (flat_map triples_from image.holds);
+  processes = map process_from image.subjects;
+}

@@ -1,0 +1,18 @@
+//! The state of the system, as definitions, and the image that it starts from.
+//!
+//! Model: `specs/State.antt` (the state: objects, current access set, processes), `specs/Named.antt` (who may name
+//! what), `specs/Start.antt` (the state that an image stands for), `specs/FirstImage.antt` (first images).
+//! Calls: none.
+//! Proved: nothing here; the crates above prove their calls against these definitions.
+//! Stands on: `bk_base`, `bk_level`, `bk_object`, `bk_path`, `bk_space`.
+#![tactic(auto)]
+
+mod first;
+mod image;
+mod process;
+
+pub use first::{FIRST_BACK, FIRST_FRONT};
+pub use image::{
+    Hold, Holds, Image, ObjectRec, Objects, SubjectRec, Subjects, WindowRec, Windows,
+};
+pub use process::{Clearance, Process, ProcessorStatus, Registers, Status9};

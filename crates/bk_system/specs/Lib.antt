@@ -1,0 +1,5 @@
+pub mod Space
+pub mod Step
+pub mod First
+pub mod Slot
+pub mod Report

@@ -1,0 +1,90 @@
+-- What a process sees of segments through its windows, and the answer to a reference that reads a word.
+use Rattle.std.specs.Prelude.{ℕ, ◌+◌, ◌*◌, ◌/◌, ◌%◌, Bool, true, false, List, [], Option, Some, None, ◌==◌, nat_le, length, slice_get, slice_index, Result, Ok, Err, if◌then◌else◌}
+use Rattle.bk_space.specs.declared.Mode.{Mode}
+use Rattle.bk_space.specs.declared.Mode.TheVariants.{Supervisor, User}
+use Rattle.bk_space.specs.declared.Space.{Space}
+use Rattle.bk_space.specs.declared.Space.TheVariants.{I, D}
+use Rattle.bk_space.specs.declared.Rights.{Rights}
+use Rattle.bk_space.specs.declared.Rights.TheVariants as rights
+use Rattle.bk_space.specs.declared.Abort.{Abort}
+use Rattle.bk_space.specs.declared.Abort.TheVariants.{Odd, NonResident, Length, ReadOnly}
+use Rattle.bk_path.specs.Paths.{Path}
+use Rattle.bk_object.specs.Modes.{Read, Execute, Write}
+use Rattle.bk_state.specs.State.{Contents, Children, Words, Messages, Typed, Object, State, find, holds}
+
+-- a page: what may be done in it, and its words
+pub record Page : Type 0 where
+  pub rights : Rights
+  pub words : List ℕ
+
+abbrev pub no_page : Page
+no_page = record { rights = rights.None; words = [] }
+
+-- the number of a window: 16 for user, 8 for data space, and the page
+abbrev pub mode_part : Mode → ℕ
+mode_part Supervisor = 0
+mode_part User = 16
+
+abbrev pub space_part : Space → ℕ
+space_part I = 0
+space_part D = 8
+
+abbrev pub window_of : Mode → Space → (address : ℕ) → ℕ
+window_of mode space address = mode_part mode + space_part space + address / 8192
+
+-- instruction space is read by execute access; data space is written by write access, and read by read access alone
+abbrev pub rights_by : (is_data reads executes writes : Bool) → Rights
+rights_by false reads true writes = rights.Read
+rights_by false reads false writes = rights.None
+rights_by true reads executes true = rights.Write
+rights_by true true executes false = rights.Read
+rights_by true false executes false = rights.None
+
+abbrev pub is_data : (window : ℕ) → Bool
+is_data window = window / 8 % 2 == 1
+
+-- the rights that the access held now gives in a window that shows the path
+abbrev pub rights_of : State → ℕ → ℕ → Path → Rights
+rights_of v s window p = rights_by (is_data window) (holds v s p Read) (holds v s p Execute) (holds v s p Write)
+
+-- the words, where there are rights to them
+abbrev pub page_with : Rights → List ℕ → Page
+page_with rights.None words = no_page
+page_with rights.Read words = record { rights = rights.Read; words = words }
+page_with rights.Write words = record { rights = rights.Write; words = words }
+
+-- a segment shows its words; nothing else shows
+abbrev pub page_from : Rights → Contents → Page
+page_from rights Children = no_page
+page_from rights (Words words) = page_with rights words
+page_from rights (Messages waiting lost) = no_page
+page_from rights (Typed bytes) = no_page
+
+abbrev pub page_by : Rights → Option Object → Page
+page_by rights None = no_page
+page_by rights (Some o) = page_from rights o.contents
+
+abbrev pub page_shown : State → ℕ → ℕ → Option (Option Path) → Page
+page_shown v s window (Some (Some p)) = page_by (rights_of v s window p) (find v p)
+page_shown v s window (Some None) = no_page
+page_shown v s window None = no_page
+
+-- the page of each window of a subject
+abbrev pub AddrSpace : Type 0
+AddrSpace = ℕ → Page
+
+unfoldable pub space_of : State → ℕ → List (Option Path) → AddrSpace
+space_of v s windows window = page_shown v s window (slice_get windows window)
+
+abbrev pub is_absent : Rights → Bool
+is_absent rights.None = true
+is_absent rights.Read = false
+is_absent rights.Write = false
+
+-- a reference that reads a word: odd, non-resident and beyond the length are tested in this order
+abbrev pub reading : Page → (address : ℕ) → Result ℕ Abort
+reading page address =
+    if address % 2 == 1 then Err Odd else (
+    if is_absent page.rights then Err NonResident else (
+    if nat_le (2 * length page.words) (address % 8192) then Err Length else
+    Ok (slice_index page.words (address % 8192 / 2))))

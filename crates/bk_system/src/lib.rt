@@ -1,0 +1,14 @@
+//! Turns, slots, runs and reports, as definitions, and the script that a run is typed with.
+//!
+//! Model: `specs/Space.antt` (what a process sees through its windows), `specs/First.antt` (the first processor, its four
+//! calls and a turn), `specs/Slot.antt` (typed bytes, slots and runs), `specs/Report.antt` (the report of a run).
+//! Calls: none.
+//! Proved: nothing here; the kernel and the program prove their calls against these definitions.
+//! Stands on: `bk_base`, `bk_report`, `bk_space`, `bk_state`.
+#![tactic(auto)]
+
+mod first;
+mod script;
+
+pub use first::{Cause, Ending, Executed, Instruction};
+pub use script::{Script, TypedAt, TypedList};
