@@ -7,7 +7,7 @@ use Rattle.std.proofs.Common.{w8}
 use Rattle.std.proofs.lemmas.Bool.Decides.{nat_tests}
 use Rattle.std.proofs.lemmas.Nat.Bits.{bit_at_and, bit_at_or, bit_at_not, bit_at-lt, bit_at_lowest}
 use Rattle.bk_object.specs.declared.modes.Modes.{Modes}
-use Rattle.bk_object.specs.Modes.{Mode, Read, Execute, Write, Append, has, modes_where, union, without}
+use Rattle.bk_object.specs.Modes.{Mode, Read, Execute, Write, Append, has, modes_where, union, without, is_within}
 
 -- the number of a set, by whether it has each mode
 abbrev number_of : (read execute write append : Bool) → ℕ
@@ -97,3 +97,21 @@ and-without a b small =
   where
     turned : (k : ℕ) → k < 8 → bit_at (bit_not w8 b) k ≡ 1 - bit_at b k
     turned k below = bit_at_not w8 b k small below
+
+all_zero : (r e w a : Bool) → (number_of r e w a == 0) ≡ (not r && not e && not w && not a)
+all_zero true e w a = grind (arith, nat_tests)
+all_zero false true w a = grind (arith, nat_tests)
+all_zero false false true a = grind (arith, nat_tests)
+all_zero false false false true = refl
+all_zero false false false false = refl
+
+implied : (a b : Bool) → not (a && not b) ≡ (not a || b)
+implied true true = refl
+implied true false = refl
+implied false b = refl
+
+-- a set is within another exactly where nothing of it is left without the other's
+pub without-is_within : (a b : Modes) → ((without a b).0 == 0) ≡ is_within a b
+without-is_within a b =
+    all_zero (has a Read && not (has b Read)) (has a Execute && not (has b Execute)) (has a Write && not (has b Write)) (has a Append && not (has b Append))
+    ∙ (λ i. implied (has a Read) (has b Read) i && implied (has a Execute) (has b Execute) i && implied (has a Write) (has b Write) i && implied (has a Append) (has b Append) i)

@@ -44,6 +44,31 @@ impl Flags for Modes {
     }
 }
 
+impl Modes {
+    /// Whether each mode of the set is one of the other's.
+    pub fn is_within(self, of: Modes) -> bool
+        ensures { result ≡ model.is_within self of }
+    {
+        difference_of(self, of).bits() == 0
+    }
+}
+
+// The modes of either set.
+pub(crate) fn union_of(a: Modes, b: Modes) -> Modes
+    ensures value { result ≡ model.union a b }
+    ensures four { result.0 < 16 }
+{
+    Modes::from_bits_retain((a.bits() | b.bits()) % 16)
+}
+
+// The modes of the first set that are none of the second's.
+pub(crate) fn difference_of(a: Modes, b: Modes) -> Modes
+    ensures value { result ≡ model.without a b }
+    ensures four { result.0 < 16 }
+{
+    Modes::from_bits_retain((a.bits() & !b.bits()) % 16)
+}
+
 /// What a set made by a test, a union, a difference and the empty set have; two sets of these four modes with the same modes are equal.
 pub fn law_modes()
     ensures by_test { (test : model.Mode → Bool) (mode : model.Mode) → model.has (model.modes_where test) mode ≡ test mode }

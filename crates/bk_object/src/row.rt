@@ -5,6 +5,7 @@ ghost use Rattle.bk_object.specs.Modes.{no_modes, union, without};
 ghost use Rattle.bk_object.specs.Rows.{given, in_row, rescinded};
 
 use crate::Modes;
+use crate::modes::{difference_of, union_of};
 use bitflags::Flags;
 use std::marker::Model;
 
@@ -86,20 +87,4 @@ impl Row {
             self.pairs[place] % 16 + 16 * modes.bits()
         };
     }
-}
-
-// The modes of either set.
-fn union_of(a: Modes, b: Modes) -> Modes
-    ensures value { result ≡ union a b }
-    ensures four { result.0 < 16 }
-{
-    Modes::from_bits_retain((a.bits() | b.bits()) % 16)
-}
-
-// The modes of the first set that are none of the second's.
-fn difference_of(a: Modes, b: Modes) -> Modes
-    ensures value { result ≡ without a b }
-    ensures four { result.0 < 16 }
-{
-    Modes::from_bits_retain((a.bits() & !b.bits()) % 16)
 }

@@ -1,5 +1,5 @@
 -- The state that an image stands for.
-use Rattle.std.specs.Prelude.{ℕ, ◌-◌, ◌*◌, ◌==◌, Bool, true, false, List, [], ◌∷◌, ◌++◌, length, map, filter, flat_map, replicate, find as first, Option, Some, None, option_map, unwrap_or}
+use Rattle.std.specs.Prelude.{ℕ, ◌-◌, ◌*◌, ◌==◌, Bool, false, List, [], ◌∷◌, ◌++◌, length, map, filter, flat_map, replicate, find as first, Option, option_map, unwrap_or}
 use Rattle.std.specs.List.{range_with_len}
 use Rattle.std.specs.FinMap as finmap
 use Rattle.std.specs.FinSet as set
@@ -40,7 +40,10 @@ shown_in windows n = option_map (λ w. w.path) (first (λ w. w.index == n) windo
 abbrev pub process_from : SubjectRec → Process
 process_from s = record {
   registers = record {
-    general = s.regs; user = s.user_sp; supervisor = s.super_sp; pc = s.pc;
+    general = s.regs;
+    user = s.user_sp;
+    supervisor = s.super_sp;
+    pc = s.pc;
     status = record { mode = s.mode; previous = s.previous; trace = false; flags = record { n = false; z = false; v = false; c = false } };
   };
   windows = map (shown_in s.windows) (range_with_len 0 32);

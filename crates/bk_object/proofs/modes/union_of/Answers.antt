@@ -1,7 +1,7 @@
 use Rattle.std.proofs.Common.{◌%◌, ap₂, ◌∙◌}
 use Rattle.std.specs.Int.RustNames.{bit_or}
 use Rattle.bk_object.proofs.ModeLemmas.{or-union}
-use Rattle.bk_object.proofs.row.union_of.Goals as goal
+use Rattle.bk_object.proofs.modes.union_of.Goals as goal
 
 pub returns-clause-value : goal.returns-clause-value
 returns-clause-value c =

@@ -2,7 +2,7 @@ use Rattle.std.proofs.Common.{◌<◌, ◌^◌, ◌%◌, ap₂, ◌∙◌, subst
 use Rattle.std.specs.Int.{bit_not}
 use Rattle.std.specs.Int.RustNames.{bit_and}
 use Rattle.bk_object.proofs.ModeLemmas.{and-without}
-use Rattle.bk_object.proofs.row.difference_of.Goals as goal
+use Rattle.bk_object.proofs.modes.difference_of.Goals as goal
 
 pub returns-clause-value : goal.returns-clause-value
 returns-clause-value c =
