@@ -1,3 +1,8 @@
+pub mod Again
 pub mod Cut
 pub mod Hex
+pub mod Numbers
+pub mod Order
 pub mod Parts
+pub mod Says
+pub mod Spelt
