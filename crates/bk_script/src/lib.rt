@@ -17,3 +17,6 @@ pub use bk_system::{Script, TypedAt, TypedList};
 pub use fault::{ScriptFault, ScriptKind, ScriptStop};
 pub use laws::law_read_again;
 pub use reading::read_script;
+
+#[cfg(test)]
+mod tests;
