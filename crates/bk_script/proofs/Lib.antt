@@ -1,5 +1,4 @@
 pub mod Again
-pub mod Cut
 pub mod Hex
 pub mod Numbers
 pub mod Order

@@ -5,7 +5,8 @@ ghost use Rattle.bk_script.specs.Lines.{follows, is_below, last, record_checks, 
 ghost use Rattle.bk_script.specs.Script.{Gives, IsScript, Refuses, text_of};
 
 use crate::fault::{ScriptFault, ScriptKind, ScriptStop};
-use crate::line::{Line, cut, read_line};
+use crate::line::{Line, read_line};
+use bk_report::cut;
 use bk_state::Image;
 use bk_system::{Script, TypedAt, TypedList};
 use std::alloc::Global;
