@@ -7,7 +7,9 @@
 #![tactic(auto)]
 
 mod item;
+mod parts;
 mod printing;
 
 pub use item::ReportItem;
+pub use parts::cut;
 pub use printing::{print, put, put_decimal, put_octal, put_word};
