@@ -87,11 +87,6 @@ abbrev pub IsPlace : Place → Type 0
 IsPlace (Reg r) = r < 8
 IsPlace (Mem space addr) = Unit {0}
 
--- how many values a width has
-abbrev pub values_of : Width → ℕ
-values_of Word = 2 ^ 16
-values_of Byte = 2 ^ 8
-
 -- a register's value at a width: the word, or its low byte
 abbrev pub low_part : Width → ℕ → ℕ
 low_part Word value = value

@@ -1,11 +1,12 @@
-ghost use Rattle.std.specs.Prelude.{◌≡◌, ◌<◌, IfOk, OnErr, OnOk};
+ghost use Rattle.std.specs.Prelude.{◌≡◌, ◌<◌, ◌^◌, IfOk, OnErr, OnOk};
 ghost use Rattle.bk_space.specs.AddrSpace.{applied};
+ghost use Rattle.bk_space.specs.Widths.{bits_of};
 ghost use Rattle.bk_space.specs.Counts.{counted_on};
 ghost use Rattle.bk_space.specs.Trail.{Trail};
 ghost use Rattle.bk_space.specs.Undo.{undone, HasRoom, IsFresh, HasMoved};
 ghost use Rattle.bk_space.specs.declared.registers.Regs.{Regs as Registers};
 ghost use Rattle.bk_operand.specs.Part.{Follows, next_word};
-ghost use Rattle.bk_operand.specs.Operand.{own_space, step_up, step_down, pointed, indexed, indexed_deferred, located, IsPlace, values_of, fetched, write_of, stored};
+ghost use Rattle.bk_operand.specs.Operand.{own_space, step_up, step_down, pointed, indexed, indexed_deferred, located, IsPlace, fetched, write_of, stored};
 
 use crate::place::Place;
 use bk_space::{Abort, Bus, Field, Regs, Space, Undo, Width};
@@ -163,7 +164,7 @@ pub fn fetch<B: Bus>(regs: &Regs, bus: &mut B, place: Place, width: Width) -> Re
     ensures value { Follows (λ x. x) result regs.now (fetched (B.shown (B.state bus.old)) width place regs.now) }
     ensures count { B.references bus.new ≡ counted_on (B.references bus.old) (fetched (B.shown (B.state bus.old)) width place regs.now).made }
     ensures state { B.state bus.new ≡ B.state bus.old }
-    ensures range { IfOk result (λ x. x < values_of width) }
+    ensures range { IfOk result (λ x. x < 2 ^ bits_of width) }
 {
     match place {
         Place::Reg(r) => match width {
@@ -188,7 +189,7 @@ pub fn store<B: Bus>(
     value: u16,
 ) -> Result<(), Abort>
     requires known { IsPlace place }
-    requires range { value < values_of width }
+    requires range { value < 2 ^ bits_of width }
     ensures stored { Follows (λ _. write_of regs.old.ps.mode width place value) result regs.new (stored (B.shown (B.state bus.old)) width place value regs.old) }
     ensures count { B.references bus.new ≡ counted_on (B.references bus.old) (stored (B.shown (B.state bus.old)) width place value regs.old).made }
     ensures written { OnOk result (B.state bus.new ≡ applied B.after (B.state bus.old) (write_of regs.old.ps.mode width place value)) }
