@@ -1,10 +1,11 @@
 // An object in the kernel's list.
 
-ghost use Rattle.std.specs.Prelude.{◌≡◌, MatchOption, None, Some, IsTrue};
+ghost use Rattle.std.specs.Prelude.{◌≡◌, [], MatchOption, None, Some, IsTrue};
 ghost use Rattle.bk_system.specs.First.{has_byte, byte_of, without_byte};
 ghost use Rattle.std.specs.Prelude.{fold};
 ghost use Rattle.bk_state.specs.Start.{is_line};
 ghost use Rattle.bk_system.specs.Slot.{taking, kept};
+ghost use Rattle.bk_kernel.specs.Contents.{contents_in};
 ghost use Rattle.bk_kernel.specs.Entries.{words_shown};
 
 use arrayvec::ArrayVec;
@@ -33,6 +34,17 @@ impl Model for Entry {
 }
 
 impl Entry {
+    pub(crate) fn new(path: Path, facts: Facts, words: Vec<u16>) -> Entry
+        ensures { result ≡ (path, record { facts = facts; contents = contents_in facts.kind words.items [] }) }
+    {
+        Entry {
+            path,
+            facts,
+            words,
+            typed: ArrayVec::new(),
+        }
+    }
+
     pub(crate) fn path(&self) -> Path
         ensures { result ≡ self.now.0 }
     {

@@ -7,6 +7,7 @@
 //! Stands on: `bk_report`, `bk_system`.
 #![tactic(auto)]
 
+mod boot;
 mod call;
 mod entry;
 mod first;
@@ -14,3 +15,4 @@ mod kernel;
 mod tables;
 mod turn;
 
+pub use kernel::{Kernel, Summary};
