@@ -1,5 +1,5 @@
 -- The answer of each rule, from the facts that it looks at, and the facts of a state.
-use Rattle.std.specs.Prelude.{ℕ, Bool, true, false, not, Option, Some, None, is_some, unwrap_or, option_map, nat_lt, find as first, if◌then◌else◌}
+use Rattle.std.specs.Prelude.{ℕ, List, Bool, true, false, not, Option, Some, None, is_some, unwrap_or, option_map, nat_lt, find as first, if◌then◌else◌}
 use Rattle.bk_level.specs.Levels.{Level, dominates, lowest, level_at}
 use Rattle.bk_path.specs.Paths.{parent, is_root}
 use Rattle.bk_object.specs.Modes.{Write, no_modes, is_within}
@@ -28,18 +28,6 @@ is_get Rescind = false
 is_get Create = false
 is_get DeleteGroup = false
 
--- the two rules by which a row changes
-abbrev pub is_row_change : Rule → Bool
-is_row_change GetRead = false
-is_row_change GetAppend = false
-is_row_change GetExecute = false
-is_row_change GetWrite = false
-is_row_change Release = false
-is_row_change Give = true
-is_row_change Rescind = true
-is_row_change Create = false
-is_row_change DeleteGroup = false
-
 -- the check of that cause fails
 abbrev pub fails : RuleFacts → Rule → Cause → Bool
 fails facts rule NotNamed = not facts.named
@@ -65,9 +53,13 @@ abbrev pub answer_for : Option Cause → Decision
 answer_for None = Yes
 answer_for (Some cause) = if nat_lt (cause_number cause) 20 then No (cause_number cause) else Unknown (cause_number cause)
 
--- the answer by the first check that fails
+-- the answer by the first of these checks that fails
+abbrev pub answer_by : RuleFacts → Rule → List Cause → Decision
+answer_by facts rule causes = answer_for (first (fails facts rule) causes)
+
+-- the answer by the first of the rule's checks that fails
 abbrev pub answer : RuleFacts → Rule → Decision
-answer facts rule = answer_for (first (fails facts rule) (checks rule))
+answer facts rule = answer_by facts rule (checks rule)
 
 abbrev pub level_or_lowest : State → Option Facts → Level
 level_or_lowest v facts = unwrap_or (option_map (level_of v) facts) lowest

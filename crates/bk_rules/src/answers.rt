@@ -1,6 +1,6 @@
 // The decision.
 
-ghost use Rattle.std.specs.Prelude.{◌≡◌, ℕ, IsTrue};
+ghost use Rattle.std.specs.Prelude.{◌≡◌, [], ◌∷◌, ℕ, IsTrue};
 ghost use Rattle.bk_state.specs.Checks as checks;
 ghost use Rattle.bk_state.specs.State as model;
 ghost use Rattle.bk_rules.specs.Decisions as decisions;
@@ -30,11 +30,16 @@ pub fn decide(facts: &RuleFacts, rule: Rule) -> Decision
     ensures { result ≡ decisions.answer facts.now rule }
 {
     match rule {
-        Rule::GetRead | Rule::GetAppend | Rule::GetExecute | Rule::GetWrite => get(facts, rule),
         Rule::Release => Decision::Yes,
-        Rule::Give | Rule::Rescind => change_row(facts, rule),
+        _ if !facts.named => Decision::Unknown(NOT_NAMED),
         Rule::Create => create(facts),
-        Rule::DeleteGroup => delete_group(facts),
+        _ if !facts.there => Decision::Unknown(NO_OBJECT),
+        Rule::DeleteGroup => change_below(facts),
+        Rule::Give | Rule::Rescind if !facts.modes.is_within(facts.kind.modes()) => {
+            Decision::Unknown(WRONG_KIND)
+        }
+        Rule::Give | Rule::Rescind => change_below(facts),
+        Rule::GetRead | Rule::GetAppend | Rule::GetExecute | Rule::GetWrite => get(facts, rule),
     }
 }
 
@@ -44,17 +49,47 @@ pub fn law_answers()
         decisions.answer (decisions.facts_of v s rule request) rule ≡ decisions.answer_for (checks.refusal v s rule request) }
 {}
 
-// The four rules by which a subject comes to hold an object. Get-append doesn't ask for the greatest level.
+// The last checks of create, for a named object.
+fn create(facts: &RuleFacts) -> Decision
+    requires { IsTrue facts.now.named }
+    ensures { result ≡ decisions.answer facts.now Rule.Create }
+{
+    if facts.root || !facts.parent_write {
+        change_below(facts)
+    } else if !facts.new_level.dominates(facts.parent_level) {
+        Decision::No(LEVEL_FALLS)
+    } else if facts.taken {
+        Decision::No(TAKEN)
+    } else if !facts.fits {
+        Decision::No(OVER_QUOTA)
+    } else {
+        Decision::Yes
+    }
+}
+
+// The checks for a change below a directory: of an object that isn't root, and whose parent the caller holds by write.
+fn change_below(facts: &RuleFacts) -> Decision
+    ensures { result ≡ decisions.answer_by facts.now Rule.DeleteGroup (checks.IsRoot ∷ checks.NoParentWrite ∷ []) }
+{
+    if facts.root {
+        Decision::No(ROOT)
+    } else if !facts.parent_write {
+        Decision::No(NO_PARENT_WRITE)
+    } else {
+        Decision::Yes
+    }
+}
+
+// The last checks of the four rules by which a subject comes to hold an object that is named and there. Get-append doesn't
+// ask for the greatest level.
 fn get(facts: &RuleFacts, rule: Rule) -> Decision
-    requires { IsTrue (decisions.is_get rule) }
+    requires get { IsTrue (decisions.is_get rule) }
+    requires named { IsTrue facts.now.named }
+    requires there { IsTrue facts.now.there }
     ensures { result ≡ decisions.answer facts.now rule }
 {
     let mode = mode_of(rule);
-    if !facts.named {
-        Decision::Unknown(NOT_NAMED)
-    } else if !facts.there {
-        Decision::Unknown(NO_OBJECT)
-    } else if !mode.is_within(facts.kind.modes()) {
+    if !mode.is_within(facts.kind.modes()) {
         Decision::Unknown(WRONG_KIND)
     } else if !mode.is_within(facts.row) {
         Decision::No(NOT_IN_ROW)
@@ -89,61 +124,5 @@ fn is_current_fit(facts: &RuleFacts, rule: Rule) -> bool
         Rule::GetAppend => facts.f_o.dominates(facts.f_c),
         Rule::GetWrite => facts.f_o == facts.f_c,
         Rule::Release | Rule::Give | Rule::Rescind | Rule::Create | Rule::DeleteGroup => true,
-    }
-}
-
-// Give and rescind.
-fn change_row(facts: &RuleFacts, rule: Rule) -> Decision
-    requires { IsTrue (decisions.is_row_change rule) }
-    ensures { result ≡ decisions.answer facts.now rule }
-{
-    if !facts.named {
-        Decision::Unknown(NOT_NAMED)
-    } else if !facts.there {
-        Decision::Unknown(NO_OBJECT)
-    } else if !facts.modes.is_within(facts.kind.modes()) {
-        Decision::Unknown(WRONG_KIND)
-    } else if facts.root {
-        Decision::No(ROOT)
-    } else if !facts.parent_write {
-        Decision::No(NO_PARENT_WRITE)
-    } else {
-        Decision::Yes
-    }
-}
-
-fn create(facts: &RuleFacts) -> Decision
-    ensures { result ≡ decisions.answer facts.now Rule.Create }
-{
-    if !facts.named {
-        Decision::Unknown(NOT_NAMED)
-    } else if facts.root {
-        Decision::No(ROOT)
-    } else if !facts.parent_write {
-        Decision::No(NO_PARENT_WRITE)
-    } else if !facts.new_level.dominates(facts.parent_level) {
-        Decision::No(LEVEL_FALLS)
-    } else if facts.taken {
-        Decision::No(TAKEN)
-    } else if !facts.fits {
-        Decision::No(OVER_QUOTA)
-    } else {
-        Decision::Yes
-    }
-}
-
-fn delete_group(facts: &RuleFacts) -> Decision
-    ensures { result ≡ decisions.answer facts.now Rule.DeleteGroup }
-{
-    if !facts.named {
-        Decision::Unknown(NOT_NAMED)
-    } else if !facts.there {
-        Decision::Unknown(NO_OBJECT)
-    } else if facts.root {
-        Decision::No(ROOT)
-    } else if !facts.parent_write {
-        Decision::No(NO_PARENT_WRITE)
-    } else {
-        Decision::Yes
     }
 }
