@@ -9,7 +9,9 @@
 mod item;
 mod parts;
 mod printing;
+mod reading;
 
 pub use item::ReportItem;
 pub use parts::cut;
 pub use printing::{print, put, put_decimal, put_octal, put_word};
+pub use reading::read_item;
