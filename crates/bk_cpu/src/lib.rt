@@ -10,9 +10,12 @@
 mod control;
 mod extended;
 mod operands;
+mod page;
+mod plain;
 mod previous;
 mod stack;
 mod stepping;
 
 pub use bk_exec::Event;
+pub use plain::PlainBus;
 pub use stepping::step;

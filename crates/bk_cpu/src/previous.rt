@@ -17,7 +17,12 @@ use bk_word::binary;
 
 // The value of an operand of the previous mode.
 #[tactic(auto, using(bk_space::proofs::CountLemmas::counted_lemmas), unfolding(bk_exec::specs::Previous::fetched_previous, bk_operand::specs::Part::reading))]
-fn fetch_previous<B: Bus>(regs: &Regs, bus: &mut B, space: Space, place: Place) -> Result<u16, Abort>
+fn fetch_previous<B: Bus>(
+    regs: &Regs,
+    bus: &mut B,
+    space: Space,
+    place: Place,
+) -> Result<u16, Abort>
     requires known { IsPlace place }
     ensures value { Follows (λ x. x) result regs.now (fetched_previous (B.shown (B.state bus.old)) space place regs.now) }
     ensures count { B.references bus.new ≡ counted_on (B.references bus.old) (fetched_previous (B.shown (B.state bus.old)) space place regs.now).made }

@@ -90,7 +90,13 @@ fn event(ending: Ending, trace: bool) -> Event
     ensures { result ≡ event_of ending trace }
 {
     match ending {
-        Ending::Completed => { if trace { Event::Fault(Cause::Break) } else { Event::Ran } }
+        Ending::Completed => {
+            if trace {
+                Event::Fault(Cause::Break)
+            } else {
+                Event::Ran
+            }
+        }
         Ending::Returned => Event::Ran,
         Ending::Called(n) => Event::Call(n),
         Ending::Trapped(cause) => Event::Fault(cause),
