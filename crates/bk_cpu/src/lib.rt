@@ -7,6 +7,15 @@
 //! Stands on: `bk_base`, `bk_word`, `bk_exec`.
 #![tactic(auto)]
 
+mod control;
+mod extended;
 mod operands;
+mod page;
+mod plain;
+mod previous;
+mod stack;
+mod stepping;
 
 pub use bk_exec::Event;
+pub use plain::PlainBus;
+pub use stepping::step;

@@ -30,7 +30,13 @@ fn extend(width: Width, to: Place, value: u16) -> u16
     ensures range { result < 2 ^ bits_of (moved_width width to) }
 {
     match (width, to) {
-        (Width::Byte, Place::Reg(_)) => { if value < 0o200 { value } else { value + 0o177400 } }
+        (Width::Byte, Place::Reg(_)) => {
+            if value < 0o200 {
+                value
+            } else {
+                value + 0o177400
+            }
+        }
         _ => value,
     }
 }

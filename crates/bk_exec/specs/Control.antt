@@ -47,10 +47,9 @@ is_taken Blo f = f.c
 abbrev pub target : ℕ → ℕ → ℕ
 target pc offset = wrapped (pos pc +ℤ (pos 2 *ℤ signed 8 offset))
 
--- the branches
-unfoldable pub branching : Cond → ℕ → Regs → Part Given
-branching cond offset regs =
-    done None (if is_taken cond regs.ps.flags then record regs { pc = target regs.pc offset } else regs)
+-- a branch, where its condition holds
+unfoldable pub branched : Cond → ℕ → Regs → Regs
+branched cond offset regs = if is_taken cond regs.ps.flags then record regs { pc = target regs.pc offset } else regs
 
 -- JMP to a place: a register is none
 abbrev pub jump_to : Place → Regs → Part Given
@@ -87,7 +86,7 @@ unfoldable pub marking : AddrSpace → ℕ → Regs → Part Given
 marking pages count regs =
     let sp = plus regs.pc (2 * count) in do
       word ← reading pages regs.ps.mode D Word sp regs
-      done None (with_reg (record (with_reg word.1 6 (plus sp 2)) { pc = reg word.1 5 }) 5 word.0)
+      done None (with_reg (record (with_reg word.1 6 (plus sp 2)) { pc = reg regs 5 }) 5 word.0)
 
 -- RTI and RTT: the PC and then the status are popped, by the mode before
 unfoldable pub resuming : AddrSpace → Ending → Regs → Part Given

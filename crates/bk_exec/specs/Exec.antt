@@ -13,8 +13,8 @@ use Rattle.bk_exec.specs.declared.event.Event.{Event}
 use Rattle.bk_exec.specs.declared.event.Event.TheVariants.{Ran, Call, Fault}
 use Rattle.bk_exec.specs.Given.{Given, done, with_flags}
 use Rattle.bk_exec.specs.Operands.{double_of, single_of, exclusive}
-use Rattle.bk_exec.specs.Extended.{extending, looping}
-use Rattle.bk_exec.specs.Control.{branching, jumping, calling, returning, marking, resuming, codes_of}
+use Rattle.bk_exec.specs.Extended.{extending, looped}
+use Rattle.bk_exec.specs.Control.{branched, jumping, calling, returning, marking, resuming, codes_of}
 use Rattle.bk_exec.specs.Previous.{moving_from, moving_to}
 
 -- an instruction that has been fetched; HALT and words that are none are reserved, and SPL, WAIT and RESET do nothing (own)
@@ -27,11 +27,11 @@ executed pages (Some (Eis op r src)) regs = extending pages op r src regs
 executed pages (Some (Jmp dst)) regs = jumping pages dst regs
 executed pages (Some (Jsr r dst)) regs = calling pages r dst regs
 executed pages (Some (Rts r)) regs = returning pages r regs
-executed pages (Some (Sob r back)) regs = looping r back regs
+executed pages (Some (Sob r back)) regs = done None (looped r back regs)
 executed pages (Some (Mark count)) regs = marking pages count regs
 executed pages (Some (Mfp space src)) regs = moving_from pages space src regs
 executed pages (Some (Mtp space dst)) regs = moving_to pages space dst regs
-executed pages (Some (Branch cond offset)) regs = branching cond offset regs
+executed pages (Some (Branch cond offset)) regs = done None (branched cond offset regs)
 executed pages (Some (Codes set mask)) regs = done None (with_flags regs (codes_of set mask regs.ps.flags))
 executed pages (Some (Spl level)) regs = done None regs
 executed pages (Some (Emt n)) regs = given (None, Called n) regs

@@ -64,7 +64,7 @@ abbrev pub back_by : ℕ → ℕ → Regs → Regs
 back_by back left regs = if left == 0 then regs else record regs { pc = minus regs.pc (2 * back) }
 
 -- SOB: the register falls by 1, and where it isn't 0 then, the PC falls by so many words
-unfoldable pub looping : ℕ → ℕ → Regs → Part Given
-looping r back regs =
+unfoldable pub looped : ℕ → ℕ → Regs → Regs
+looped r back regs =
     let left = minus (reg regs r) 1 in
-    done None (back_by back left (with_reg regs r left))
+    back_by back left (with_reg regs r left)

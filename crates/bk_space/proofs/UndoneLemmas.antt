@@ -220,4 +220,4 @@ pub HasMoved-pc : (trail : Trail) (before after : Regs) (p : ℕ) → HasMoved t
 HasMoved-pc trail before after p m = record { began = m.began; alone = m.alone }
 
 -- what a change of the program counter needs
-pub ruleset undone_lemmas = (undone-pc, HasMoved-pc)
+pub ruleset undone_lemmas = (undone-pc, undone-fresh, HasMoved-pc)
