@@ -4,3 +4,4 @@ pub mod Extended
 pub mod Names
 pub mod Numbers
 pub mod Results
+pub mod Rows

@@ -3,7 +3,9 @@ use Rattle.std.proofs.Common.{◌≡◌, ℕ, zero, suc, ◌+◌, ◌<◌, Bool,
 use Rattle.std.proofs.Math.ListN.{set}
 use Rattle.std.proofs.lemmas.List.Quantifiers.{position-Some}
 use Rattle.std.proofs.lemmas.Iterator.Adapters.{position_from-zero}
-use Rattle.std.specs.Prelude.{position}
+use Rattle.std.specs.Prelude.{position, map, option_map}
+use Rattle.bk_state.specs.Maps.{map_values}
+use Rattle.bk_state.proofs.MapsKept.{find-each, get-map_values}
 use Rattle.std.specs.List.{position_from}
 use Rattle.std.specs.Ordering.{eq_by_cmp}
 use Rattle.std.specs.FinMap.{FinMap, find, get, insert, from_entries, get-from_entries, get-insert, same_map}
@@ -86,3 +88,11 @@ nowhere_from (e ∷ es) q i is = by (is_same e.0 q) refl is (nowhere_from es q (
 -- where it has none, nothing is found
 pub found_nowhere : (es : Entries) (q : Path) → position (test q) es ≡ None → get (from_entries {R = path_cmp} es) q ≡ None
 found_nowhere es q is = get-from_entries path_total es q ∙ nowhere_from es q 0 (sym (position_from-zero (test q) es) ∙ is)
+
+-- all objects change
+pub mapped_there : (es : Entries) (f : Object → Object) → from_entries {R = path_cmp} (map (λ e. (e.0, f e.1)) es) ≡ map_values f (from_entries es)
+mapped_there es f = same_map path_total path_apart _ _ (λ q.
+    get-from_entries path_total _ q
+    ∙ find-each path_cmp f q es
+    ∙ ap (option_map f) (sym (get-from_entries path_total es q))
+    ∙ sym (get-map_values path_cmp f (from_entries es) q))

@@ -2,3 +2,5 @@ pub mod Contents
 pub mod Entries
 pub mod Access
 pub mod Tables
+pub mod Items
+pub mod Progress

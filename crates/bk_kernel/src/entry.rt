@@ -1,10 +1,11 @@
 // An object in the kernel's list.
 
-ghost use Rattle.std.specs.Prelude.{◌≡◌, MatchOption, None, Some, IsTrue};
+ghost use Rattle.std.specs.Prelude.{◌≡◌, [], MatchOption, None, Some, IsTrue};
 ghost use Rattle.bk_system.specs.First.{has_byte, byte_of, without_byte};
 ghost use Rattle.std.specs.Prelude.{fold};
 ghost use Rattle.bk_state.specs.Start.{is_line};
 ghost use Rattle.bk_system.specs.Slot.{taking, kept};
+ghost use Rattle.bk_kernel.specs.Contents.{contents_in};
 ghost use Rattle.bk_kernel.specs.Entries.{words_shown};
 
 use arrayvec::ArrayVec;
@@ -33,6 +34,17 @@ impl Model for Entry {
 }
 
 impl Entry {
+    pub(crate) fn new(path: Path, facts: Facts, words: Vec<u16>) -> Entry
+        ensures { result ≡ (path, record { facts = facts; contents = contents_in facts.kind words.items [] }) }
+    {
+        Entry {
+            path,
+            facts,
+            words,
+            typed: ArrayVec::new(),
+        }
+    }
+
     pub(crate) fn path(&self) -> Path
         ensures { result ≡ self.now.0 }
     {
@@ -65,13 +77,16 @@ impl Entry {
         }
     }
 
-    /// Takes the oldest typed byte.
+    /// Takes the oldest typed byte of a line, or gives 0 where none waits.
     pub(crate) fn take_byte(&mut self) -> u8
-        requires { IsTrue (has_byte self.old.1.contents) }
         ensures byte { result ≡ byte_of self.old.1.contents }
         ensures left { self.new ≡ (self.old.0, record { facts = self.old.1.facts; contents = without_byte self.old.1.contents }) }
     {
-        self.typed.remove(0)
+        if self.has_byte() {
+            self.typed.remove(0)
+        } else {
+            0
+        }
     }
 
     /// Keeps the bytes typed on a line, if it is that line.

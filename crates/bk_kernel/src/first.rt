@@ -1,13 +1,15 @@
 // The first processor: what one instruction comes to.
 
 ghost use Rattle.std.specs.Prelude.{◌≡◌, slice_index, slice_set};
-ghost use Rattle.bk_system.specs.First.{ran, with_flags, move_of, test_of, instruction_of, moved, tested, branched, past_word, is_built, exec, executed, immediate, next_word, cause_of};
+ghost use Rattle.bk_system.specs.First.{not_executed, ran, with_flags, move_of, test_of, instruction_of, moved, tested, branched, past_word, is_built, exec, executed, immediate, next_word, cause_of};
 ghost use Rattle.bk_system.specs.Space.{space_of};
-ghost use Rattle.bk_system.specs.declared.first.Ending.TheVariants.{Faults};
+ghost use Rattle.bk_system.specs.declared.first.Ending.TheVariants.{Faults, Calls};
+ghost use Rattle.std.specs.Prelude.{if◌then◌else◌};
 
 use crate::tables::Tables;
+use bk_path::Path;
 use bk_space::{Abort, Flags};
-use bk_state::{Process, Registers};
+use bk_state::Registers;
 use bk_system::{Ending, Executed, Instruction};
 
 /// The number of the fault of what is not built.
@@ -160,5 +162,83 @@ fn faulted(registers: Registers, references: u8, cause: u8) -> Executed
         registers,
         references,
         ending: Ending::Faults(cause),
+    }
+}
+
+fn tested(value: u16, registers: Registers) -> Registers
+    ensures { result ≡ tested value registers }
+{
+    with_flags(registers, value, false)
+}
+
+impl Tables {
+    /// The word at the program counter, in instruction space of the current mode.
+    fn next_word(&self, subject: u8, windows: &[Option<Path>; 32], registers: &Registers) -> Result<u16, Abort>
+        ensures { result ≡ next_word registers.now (space_of self.now subject windows.now) }
+    {
+        self.read_word(subject, windows, registers.status.mode, registers.pc)
+    }
+
+    /// Moves the word after the instruction; `before` are the registers before it, and `now` those past its word.
+    fn immediate(&self, subject: u8, windows: &[Option<Path>; 32], before: Registers, now: Registers, destination: u8) -> Executed
+        ensures { result ≡ immediate before now destination (next_word now (space_of self.now subject windows.now)) }
+    {
+        match self.next_word(subject, windows, &now) {
+            Ok(value) => Executed {
+                registers: moved(value, destination, past_word(now)),
+                references: 2,
+                ending: Ending::Ran,
+            },
+            Err(abort) => faulted(before, 2, cause_of(abort)),
+        }
+    }
+
+    /// What an instruction comes to.
+    fn executed(&self, subject: u8, windows: &[Option<Path>; 32], before: Registers, now: Registers, instruction: Option<Instruction>) -> Executed
+        ensures { result ≡ executed before now (space_of self.now subject windows.now) instruction }
+    {
+        match instruction {
+            Some(Instruction::Move {
+                source,
+                destination,
+            }) => ran(moved(general(&now, source), destination, now)),
+            Some(Instruction::MoveImmediate { destination }) => {
+                self.immediate(subject, windows, before, now, destination)
+            }
+            Some(Instruction::Test { source }) => ran(tested(general(&now, source), now)),
+            Some(Instruction::Branch { offset }) => ran(branched(offset, now)),
+            Some(Instruction::BranchIfZero { offset }) => ran(if now.status.flags.z {
+                branched(offset, now)
+            } else {
+                now
+            }),
+            Some(Instruction::KernelCall { number }) => called(before, now, number),
+            None => faulted(before, 1, NOT_BUILT),
+        }
+    }
+
+    /// One instruction of a process.
+    #[tactic(auto, unfolding(bk_system::specs::First::exec))]
+    pub(crate) fn execute(&self, subject: u8, windows: &[Option<Path>; 32], registers: Registers) -> Executed
+        ensures { result ≡ exec registers (space_of self.now subject windows.now) }
+    {
+        match self.next_word(subject, windows, &registers) {
+            Ok(word) => self.executed(subject, windows, registers, past_word(registers), instruction_of(word)),
+            Err(abort) => faulted(registers, 1, cause_of(abort)),
+        }
+    }
+}
+
+fn called(before: Registers, now: Registers, number: u8) -> Executed
+    ensures { result ≡ (if is_built number then record { registers = now; references = 1; ending = Calls number } else not_executed before) }
+{
+    if is_built(number) {
+        Executed {
+            registers: now,
+            references: 1,
+            ending: Ending::Calls(number),
+        }
+    } else {
+        faulted(before, 1, NOT_BUILT)
     }
 }

@@ -7,7 +7,12 @@
 //! Stands on: `bk_report`, `bk_system`.
 #![tactic(auto)]
 
+mod boot;
+mod call;
 mod entry;
 mod first;
+mod kernel;
 mod tables;
+mod turn;
 
+pub use kernel::{Kernel, Summary};

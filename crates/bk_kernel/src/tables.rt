@@ -3,14 +3,16 @@
 ghost use Rattle.std.specs.Prelude.{◌≡◌, ◌<◌, MatchOption, IfSome, None, Some, IsTrue, is_some, length};
 ghost use Rattle.bk_space.specs.declared.Space.TheVariants.{I};
 ghost use Rattle.bk_state.specs.State.{find, facts_at, holds, process_of};
+ghost use Rattle.bk_state.specs.Maps.{map_values};
 ghost use Rattle.bk_state.specs.Named.{is_named, passes};
 ghost use Rattle.bk_system.specs.Space.{rights_of, rights_by, is_data, page_shown, space_of, window_of, reading, is_absent};
-ghost use Rattle.bk_system.specs.First.{with_process, byte_at, without_byte_at, has_byte};
-ghost use Rattle.bk_system.specs.Slot.{arrived, slot_ended, subject_of, taking, with_resumed};
+ghost use Rattle.bk_system.specs.First.{with_process, byte_at, without_byte_at, has_byte, is_some_line};
+ghost use Rattle.bk_system.specs.Slot.{all_arrived, arrived, slot_ended, subject_of, taking, with_resumed};
 ghost use Rattle.std.specs.Prelude.{map, position};
 ghost use Rattle.std.specs.FinMap as finmap;
 ghost use Rattle.bk_kernel.specs.Entries.{objects_of, words_at, CanRead, with_object, without_byte_in};
 ghost use Rattle.std.specs.List.{list_any};
+ghost use Rattle.bk_object.specs.Kinds.{is_directory};
 ghost use Rattle.bk_object.specs.Modes.{has};
 ghost use Rattle.bk_path.specs.Paths.{is_same};
 ghost use Rattle.bk_kernel.specs.Access.{mode_of, gives};
@@ -22,6 +24,7 @@ use bk_path::Path;
 use bk_space::{Abort, Mode, Rights};
 use bk_state::{Clearance, Hold, Process, Status9};
 use bitflags::Flags;
+use bk_system::TypedAt;
 use std::marker::Model;
 
 /// A mode of access.
@@ -238,8 +241,7 @@ fn window(mode: Mode, address: u16) -> u8
     }
 }
 
-fn take_byte(objects: &mut [Entry], path: Path) -> u8
-    requires { IsTrue (passes (λ o. has_byte o.contents) (finmap.get (objects_of objects.old) path)) }
+fn take_byte_of(objects: &mut [Entry], path: Path) -> u8
     ensures byte { result ≡ byte_at (finmap.get (objects_of objects.old) path) }
     ensures left { objects_of objects.new ≡ with_object (objects_of objects.old) path (without_byte_in (finmap.get (objects_of objects.old) path)) }
 {
@@ -260,6 +262,12 @@ fn type_all(objects: &mut [Entry], line: u8, bytes: &[u8])
     }
 }
 
+fn type_on(objects: &mut [Entry], line: u8, bytes: &[u8])
+    ensures { objects_of objects.new ≡ map_values (taking line bytes.now) (objects_of objects.old) }
+{
+    type_all(objects, line, bytes);
+}
+
 fn resume(process: &mut Process)
     ensures { process.new ≡ with_resumed process.old }
 {
@@ -273,5 +281,83 @@ fn resume_all(processes: &mut [Process])
 {
     for process in processes.iter_mut() {
         resume(process);
+    }
+}
+
+impl Tables {
+    /// Takes the oldest typed byte of the line at a path, or gives 0 where none waits.
+    pub(crate) fn take_byte(&mut self, path: Path) -> u8
+        ensures byte { result ≡ byte_at (find self.old path) }
+        ensures left { self.new ≡ without_byte_at self.old path (find self.old path) }
+    {
+        take_byte_of(&mut self.objects, path)
+    }
+
+    /// Bytes arrive on a line.
+    #[tactic(auto, unfolding(bk_system::specs::Slot::arrived))]
+    pub(crate) fn type_bytes(&mut self, line: u8, bytes: &[u8])
+        ensures { self.new ≡ arrived self.old line bytes.now }
+    {
+        type_on(&mut self.objects, line, bytes);
+    }
+
+    /// The bytes of records arrive on their lines, in order.
+    pub(crate) fn type_records(&mut self, typed: &[TypedAt])
+        ensures { self.new ≡ all_arrived self.old typed.now }
+    {
+        for record in typed {
+            self.type_bytes(record.line, record.bytes.as_slice());
+        }
+    }
+
+    /// A slot ends: each paused process runs again.
+    #[tactic(auto, unfolding(bk_system::specs::Slot::slot_ended))]
+    pub(crate) fn end_slot(&mut self)
+        ensures { self.new ≡ slot_ended self.old }
+    {
+        resume_all(&mut self.processes);
+    }
+
+    /// Whether the subject may name the object at a path.
+    pub(crate) fn is_named(&self, subject: u8, path: Path) -> bool
+        ensures { result ≡ is_named self.now subject path }
+    {
+        match path.parent() {
+            None => true,
+            Some(parent) => {
+                self.is_directory(parent)
+                    && (self.holds(subject, parent, Access::Read)
+                        || self.holds(subject, parent, Access::Write))
+            }
+        }
+    }
+
+    fn is_directory(&self, path: Path) -> bool
+        ensures { result ≡ passes (λ facts. is_directory facts.kind) (facts_at self.now path) }
+    {
+        match self.facts(path) {
+            Some(facts) => facts.kind == Kind::Directory,
+            None => false,
+        }
+    }
+
+    /// Whether the object at a path is a line.
+    pub(crate) fn is_line(&self, path: Path) -> bool
+        ensures { result ≡ passes (λ facts. is_some_line facts.kind) (facts_at self.now path) }
+    {
+        match self.facts(path) {
+            Some(facts) => matches!(facts.kind, Kind::Line(_)),
+            None => false,
+        }
+    }
+
+    /// Whether a typed byte waits on the line at a path.
+    pub(crate) fn has_byte(&self, path: Path) -> bool
+        ensures { result ≡ passes (λ o. has_byte o.contents) (find self.now path) }
+    {
+        match self.object(path) {
+            Some(entry) => entry.has_byte(),
+            None => false,
+        }
     }
 }

@@ -1,4 +1,5 @@
-use Rattle.std.specs.Prelude.{◌≡◌, ℕ, ◌+◌, ◌/◌, ◌%◌, ◌<◌, ◌==◌, ◌↔◌, if◌then◌else◌, Bool, List, [], ◌∷◌, ◌++◌, flat_map, codes, decimal}
+use Rattle.std.specs.Prelude.{◌≡◌, ℕ, ◌+◌, ◌/◌, ◌%◌, ◌<◌, ◌==◌, ◌↔◌, if◌then◌else◌, Bool, List, [], ◌∷◌, ◌++◌, ◌^◌, length, drop, flat_map, codes, decimal}
+use Rattle.std.specs.List.{AllByRecursion}
 use Rattle.bk_report.specs.declared.item.ReportItem.{ReportItem}
 use Rattle.bk_report.specs.declared.item.ReportItem.TheVariants.{Call, Fault, Byte, End}
 
@@ -48,3 +49,24 @@ IsAnswered (Call slot turn subject number regs answer cause) = (answer < 3) × (
 IsAnswered (Fault slot turn subject cause pc entered) = Unit {0}
 IsAnswered (Byte slot turn line byte) = Unit {0}
 IsAnswered (End slots turns references calls) = Unit {0}
+
+-- the fields are of their types
+abbrev pub IsWithin : ReportItem → Type 0
+IsWithin (Call slot turn subject number regs answer cause) =
+    (slot < 2 ^ 32) × (turn < 2 ^ 16) × (subject < 2 ^ 8) × (number < 2 ^ 8)
+    × (length regs ≡ 6) × AllByRecursion (λ word. word < 2 ^ 16) regs × (cause < 2 ^ 8)
+IsWithin (Fault slot turn subject cause pc entered) =
+    (slot < 2 ^ 32) × (turn < 2 ^ 16) × (subject < 2 ^ 8) × (cause < 2 ^ 8) × (pc < 2 ^ 16)
+IsWithin (Byte slot turn line byte) = (slot < 2 ^ 32) × (turn < 2 ^ 16) × (line < 2 ^ 8) × (byte < 2 ^ 8)
+IsWithin (End slots turns references calls) = (slots < 2 ^ 32) × (turns < 2 ^ 32) × (references < 2 ^ 64) × (calls < 2 ^ 32)
+
+-- an item that is printed
+pub record IsPrinted (item : ReportItem) : Type 0 where
+  pub within : IsWithin item
+  pub answered : IsAnswered item
+
+-- the first n bytes are the line of an item that is printed
+pub record IsLine (bytes : List ℕ) (item : ReportItem) (n : ℕ) : Type 0 where
+  pub printed : IsPrinted item
+  pub len : n ≡ length (text_of item)
+  pub line : bytes ≡ text_of item ++ drop n bytes

@@ -7,7 +7,13 @@
 #![tactic(auto)]
 
 mod item;
+mod parts;
 mod printing;
+mod reading;
+mod records;
 
 pub use item::ReportItem;
+pub use parts::cut;
 pub use printing::{print, put, put_decimal, put_octal, put_word};
+pub use reading::read_item;
+pub use records::line_records;

@@ -1,3 +1,7 @@
-pub mod Cut
+pub mod Again
 pub mod Hex
+pub mod Numbers
+pub mod Order
 pub mod Parts
+pub mod Says
+pub mod Spelt

@@ -10,7 +10,7 @@ use Rattle.bk_script.specs.declared.line.Line.{Line}
 use Rattle.bk_script.specs.declared.line.Line.TheVariants.{Record, Ends}
 use Rattle.bk_script.specs.Fault.{fault, first_failing, ◌>>=◌}
 use Rattle.bk_script.specs.Lines.{fields_of, line_of, record_checks, end_checks, ended, line_at, lines_at, script_of}
-use Rattle.bk_script.proofs.Cut.{split_some}
+use Rattle.bk_report.proofs.Splitting.{split_some}
 
 -- a fourth field is one too many
 pub fields_of-four : (one two three : List ℕ) (p : ℕ → Bool) (more : List ℕ) → fields_of (one ∷ two ∷ three ∷ slice_split p more) ≡ None

@@ -1,15 +1,22 @@
 -- A script's text, and what holds of a script.
-use Rattle.std.specs.Prelude.{◌≡◌, ℕ, ◌*◌, ◌<◌, ◌≤◌, ◌^◌, ◌⊎◌, List, [], ◌∷◌, ◌++◌, length, flat_map, All, codes, decimal, Result, Ok, Err}
-use Rattle.hex.specs.Hex.{encode_lower}
+use Rattle.std.specs.Prelude.{◌≡◌, ℕ, ◌+◌, ◌/◌, ◌%◌, nat_le, if◌then◌else◌, ◌*◌, ◌<◌, ◌≤◌, ◌^◌, ◌⊎◌, List, [], ◌∷◌, ◌++◌, length, flat_map, All, codes, decimal, Result, Ok, Err}
 use Rattle.bk_script.specs.declared.fault.ScriptFault.{ScriptFault}
 use Rattle.bk_script.specs.declared.fault.ScriptStop.{ScriptStop}
 use Rattle.bk_script.specs.declared.fault.ScriptStop.TheVariants.{Bad, NoMemory}
 use Rattle.bk_system.specs.declared.TypedAt.{TypedAt}
 use Rattle.bk_system.specs.declared.Script.{Script}
 
+-- a hexadecimal digit in lower case
+abbrev pub hex_digit : ℕ → ℕ
+hex_digit n = if nat_le n 9 then 48 + n else 87 + n
+
+-- bytes, each as two digits
+abbrev pub hex_of : List ℕ → List ℕ
+hex_of bytes = flat_map (λ b. hex_digit (b / 16) ∷ hex_digit (b % 16) ∷ []) bytes
+
 -- the line of a record: its slot, its line and its bytes in hexadecimal
 abbrev pub record_text : TypedAt → List ℕ
-record_text typed = decimal typed.slot ++ codes " " ++ decimal typed.line ++ codes " " ++ encode_lower typed.bytes ++ codes "\n"
+record_text typed = decimal typed.slot ++ codes " " ++ decimal typed.line ++ codes " " ++ hex_of typed.bytes ++ codes "\n"
 
 -- the text of a script
 unfoldable pub text_of : List TypedAt → ℕ → List ℕ

@@ -9,9 +9,14 @@
 
 mod fault;
 mod field;
+mod laws;
 mod line;
 mod reading;
 
 pub use bk_system::{Script, TypedAt, TypedList};
 pub use fault::{ScriptFault, ScriptKind, ScriptStop};
+pub use laws::law_read_again;
 pub use reading::read_script;
+
+#[cfg(test)]
+mod tests;

@@ -2,10 +2,11 @@ ghost use Rattle.std.specs.Prelude.{◌≡◌, ◌+◌, ◌==◌, ◌<◌, ◌�
 ghost use Rattle.std.specs.List.{slice_split};
 ghost use Rattle.bk_script.specs.Fault.{first_failing};
 ghost use Rattle.bk_script.specs.Lines.{follows, is_below, last, record_checks, end_checks, script_of};
-ghost use Rattle.bk_script.specs.Script.{Gives, Refuses};
+ghost use Rattle.bk_script.specs.Script.{Gives, IsScript, Refuses, text_of};
 
 use crate::fault::{ScriptFault, ScriptKind, ScriptStop};
-use crate::line::{Line, cut, read_line};
+use crate::line::{Line, read_line};
+use bk_report::cut;
 use bk_state::Image;
 use bk_system::{Script, TypedAt, TypedList};
 use std::alloc::Global;
@@ -130,6 +131,10 @@ fn read_lines(alloc: Global, bytes: &[u8], lines: u8, turns: u16) -> Result<Scri
 pub fn read_script(alloc: Global, bytes: &[u8], image: &Image) -> Result<Script, ScriptStop>
     ensures ok { IfOk result (λ script. script_of image.now.lines image.now.turns bytes.now ≡ Ok (script.typed, script.slots)) }
     ensures bad { IfErr result (λ stop. Refuses stop (script_of image.now.lines image.now.turns bytes.now)) }
+
+    // What is read is spelt by exactly these bytes, and holds of them.
+    ensures spelt { IfOk result (λ script. bytes.now ≡ text_of script.typed script.slots) }
+    ensures holds { IfOk result (λ script. IsScript image.now.lines image.now.turns script.typed script.slots) }
 {
     read_lines(alloc, bytes, image.lines, image.turns)
 }

@@ -1,2 +1,3 @@
 pub mod UndoneLemmas
 pub mod ReferenceLemmas
+pub mod CountLemmas

@@ -214,3 +214,10 @@ moved_by_one (Some p) trail before after n a e f m =
 pub HasMoved-noted : (trail : Trail) (before after : Regs) (n : ℕ) (a : ℤ) → HasRoom trail → HasMoved trail before after → HasMoved (noted trail n a) before (moved after n a)
 unfolding noted
 HasMoved-noted trail before after n a room m = moved_by_one trail.first trail before after n a refl room.second m
+
+-- a change of the program counter is no change to be noted
+pub HasMoved-pc : (trail : Trail) (before after : Regs) (p : ℕ) → HasMoved trail before after → HasMoved trail before (record after { pc = p })
+HasMoved-pc trail before after p m = record { began = m.began; alone = m.alone }
+
+-- what a change of the program counter needs
+pub ruleset undone_lemmas = (undone-pc, undone-fresh, HasMoved-pc)

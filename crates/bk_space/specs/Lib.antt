@@ -5,3 +5,4 @@ pub mod Registers
 pub mod Status
 pub mod Trail
 pub mod Undo
+pub mod Widths

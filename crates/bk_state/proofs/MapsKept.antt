@@ -7,7 +7,7 @@ use Rattle.std.specs.FinMap.Entries.{below_all}
 use Rattle.bk_state.specs.Maps.{map_values}
 
 module _ {K X Y : Type 0} (R : K → K → Ordering) (f : X → Y) where
-  abbrev each : List (K × X) → List (K × Y)
+  abbrev pub each : List (K × X) → List (K × Y)
   each es = map (λ e. (e.0, f e.1)) es
 
   below-each : (x : K) (es : List (K × X)) → below_all R x (each es) ≡ below_all R x es
@@ -18,7 +18,7 @@ module _ {K X Y : Type 0} (R : K → K → Ordering) (f : X → Y) where
   sorted-each [] = refl
   sorted-each (e ∷ es) = λ i. below-each e.0 es i && sorted-each es i
 
-  find-each : (q : K) (es : List (K × X)) → find R q (each es) ≡ option_map f (find R q es)
+  pub find-each : (q : K) (es : List (K × X)) → find R q (each es) ≡ option_map f (find R q es)
   find-each q [] = refl
   find-each q (e ∷ es) = ap (cond (eq_by_cmp R q e.0) (Some (f e.1))) (find-each q es) ∙ by (eq_by_cmp R q e.0)
     where

@@ -36,6 +36,10 @@ object_from o = record { facts = o.facts; contents = contents_from o.facts.kind 
 abbrev pub shown_in : List WindowRec → ℕ → Option Path
 shown_in windows n = option_map (λ w. w.path) (first (λ w. w.index == n) windows)
 
+-- the paths that the 32 windows show, by their numbers
+unfoldable pub windows_from : List WindowRec → List (Option Path)
+windows_from windows = map (shown_in windows) (range_with_len 0 32)
+
 -- a process at the start: the given registers, no trace bit and no condition codes, and it runs
 abbrev pub process_from : SubjectRec → Process
 process_from s = record {
@@ -46,7 +50,7 @@ process_from s = record {
     pc = s.pc;
     status = record { mode = s.mode; previous = s.previous; trace = false; flags = record { n = false; z = false; v = false; c = false } };
   };
-  windows = map (shown_in s.windows) (range_with_len 0 32);
+  windows = windows_from s.windows;
   entries = s.entries;
   status = Running;
 }

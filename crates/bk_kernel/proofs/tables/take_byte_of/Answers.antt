@@ -6,12 +6,7 @@ use Rattle.bk_state.specs.State.{Object}
 use Rattle.bk_system.specs.First.{has_byte, byte_at}
 use Rattle.bk_kernel.specs.Entries.{objects_of, with_object, without_byte_in}
 use Rattle.bk_kernel.proofs.Objects.{found_there, found_nowhere, set_there}
-use Rattle.bk_kernel.proofs.tables.take_byte.Goals as goal
-
-pub take_byte-requires : goal.take_byte-requires
-take_byte-requires c =
-    subst (λ (o : Option Object). IsTrue (passes (λ o. has_byte o.contents) o))
-    (found_there c.args.objects.now c.args.path c.in-Some.place c.index-objects-place.result (sym c.place.ensures.first ∙ c.in-Some.is)) c.requires
+use Rattle.bk_kernel.proofs.tables.take_byte_of.Goals as goal
 
 pub returns-in-Some-clause-byte : goal.returns-in-Some-clause-byte
 returns-in-Some-clause-byte c =
