@@ -78,3 +78,30 @@ pub fn law_antisymmetric(a: Level, b: Level)
     let _ = &a.class;
     let _ = &b.class;
 }
+
+#[cfg(test)]
+mod tests {
+    use super::Level;
+
+    // Class and categories of the first level, of the second, and whether the first dominates.
+    #[test]
+    fn dominates_by_class_and_by_categories(rt: HostRuntime) {
+        let rows = [
+            (2, 0b10, 2, 0b10, true),
+            (2, 0b11, 1, 0b10, true),
+            (1, 0b11, 2, 0b10, false),
+            (2, 0b10, 1, 0b11, false),
+            (1, 0b01, 0, 0b10, false), // neither dominates
+            (255, 0x8000, 255, 0x8000, true),
+            (255, 0x7fff, 0, 0x8000, false),
+        ];
+        for (class, cats, other_class, other_cats, dominates) in rows {
+            let above = Level { class, cats };
+            let below = Level {
+                class: other_class,
+                cats: other_cats,
+            };
+            assert_eq!(rt; above.dominates(below), dominates);
+        }
+    }
+}

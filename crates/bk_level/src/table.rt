@@ -101,3 +101,29 @@ impl LevelTable {
         self.levels[..self.len as usize].contains(&level)
     }
 }
+
+#[cfg(test)]
+mod tests {
+    use super::{LevelNo, LevelTable};
+    use crate::Level;
+
+    // 64 levels get their numbers; then a doubled one and a new one are refused, and nothing changes.
+    #[test]
+    fn takes_64_distinct_levels(rt: HostRuntime) {
+        let mut table = LevelTable::new();
+        for class in 0..64u8 {
+            assert_eq!(rt; table.push(Level { class, cats: 1 }), Ok(()));
+        }
+        assert_eq!(rt;
+            table.push(Level { class: 63, cats: 1 }),
+            Err(LevelNo::Doubled)
+        );
+        assert_eq!(rt;
+            table.push(Level { class: 64, cats: 1 }),
+            Err(LevelNo::Full)
+        );
+        assert_eq!(rt; table.len(), 64);
+        assert_eq!(rt; table.get(63), Some(Level { class: 63, cats: 1 }));
+        assert_eq!(rt; table.get(64), None);
+    }
+}

@@ -10,6 +10,8 @@ mod facts;
 mod kind;
 mod modes;
 mod row;
+#[cfg(test)]
+mod tests;
 
 pub use facts::{Facts, Slot};
 pub use kind::Kind;

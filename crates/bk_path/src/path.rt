@@ -243,3 +243,60 @@ fn is_zero(entries: &[u8]) -> bool
 {
     entries.iter().all(|entry| *entry == 0)
 }
+
+#[cfg(test)]
+mod tests {
+    use super::Path;
+
+    // Two words, in octal, that no path is packed in: a depth of 8, an entry past the depth in the first word, in the second
+    // word, and below root.
+    #[test]
+    fn other_words_are_no_path(rt: HostRuntime) {
+        let rows = [
+            (0o100000, 0o000000),
+            (0o177777, 0o177777),
+            (0o010420, 0o000000),
+            (0o010401, 0o000000),
+            (0o030421, 0o010000),
+            (0o060421, 0o010421),
+            (0o000400, 0o000000),
+            (0o000000, 0o000001),
+        ];
+        for (first, second) in rows {
+            assert_eq!(rt; Path::unpack(first, second), None);
+        }
+    }
+
+    // `/1` is 010400, 000000; seven entries of 15 fill both words.
+    #[test]
+    fn packs_entries_from_the_top(rt: HostRuntime) {
+        let one = Path::root().child(1).expect(&rt, "one entry");
+        assert_eq!(rt; one.pack(), (0o010400, 0o000000));
+        assert_eq!(rt; Path::unpack(0o010400, 0o000000), Some(one));
+        let mut path = Path::root();
+        for _ in 0..7 {
+            path = path.child(15).expect(&rt, "at most seven entries");
+        }
+        assert_eq!(rt; path.pack(), (0o077777, 0o177777));
+        assert_eq!(rt; path.child(0), None);
+        assert_eq!(rt; one.child(16), None);
+        assert_eq!(rt; one.entry(0), Some(1));
+        assert_eq!(rt; one.entry(1), None);
+        assert_eq!(rt; one.parent(), Some(Path::root()));
+        assert_eq!(rt; Path::root().parent(), None);
+    }
+
+    // A path comes before what it begins: `/`, `/0`, `/0/0`, `/1`. The words order otherwise.
+    #[test]
+    fn orders_as_lists(rt: HostRuntime) {
+        let paths = [
+            Path::unpack(0o000000, 0),
+            Path::unpack(0o010000, 0),
+            Path::unpack(0o020000, 0),
+            Path::unpack(0o010400, 0),
+        ];
+        assert!(rt; paths[0] < paths[1]);
+        assert!(rt; paths[1] < paths[2]);
+        assert!(rt; paths[2] < paths[3]);
+    }
+}

@@ -64,3 +64,19 @@ impl Cell {
         self.used
     }
 }
+
+#[cfg(test)]
+mod tests {
+    use super::Cell;
+
+    // A limit of 5: 4 more fit beside the 1 of the directory, and then not 1.
+    #[test]
+    fn takes_charges_up_to_its_limit(rt: HostRuntime) {
+        let mut cell = Cell::new(5);
+        assert!(rt; cell.charge(4));
+        assert_eq!(rt; cell.used(), 5);
+        assert!(rt; !cell.charge(1));
+        assert_eq!(rt; cell.used(), 5);
+        assert_eq!(rt; cell.limit(), 5);
+    }
+}

@@ -23,3 +23,31 @@ pub fn charge_of(facts: &Facts, parent_level: u8) -> u16
         Kind::Line(_) => 1,
     }
 }
+
+#[cfg(test)]
+mod tests {
+    use super::charge_of;
+    use bk_object::{Facts, Kind, Row};
+
+    // Kind, blocks, quota, level, the parent's level, and the charge.
+    #[test]
+    fn charges_by_kind(rt: HostRuntime) {
+        let rows = [
+            (Kind::Directory, 0, 0, 1, 1, 1),
+            (Kind::Directory, 0, 5, 1, 0, 5),
+            (Kind::Segment, 4, 0, 1, 0, 4),
+            (Kind::Mailbox, 0, 0, 1, 0, 2),
+            (Kind::Line(0), 0, 0, 0, 0, 1),
+        ];
+        for (kind, blocks, quota, level, above, charge) in rows {
+            let facts = Facts {
+                kind,
+                blocks,
+                level,
+                quota,
+                row: Row::new(),
+            };
+            assert_eq!(rt; charge_of(&facts, above), charge);
+        }
+    }
+}

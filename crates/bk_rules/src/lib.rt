@@ -9,6 +9,8 @@
 mod answers;
 mod causes;
 mod facts;
+#[cfg(test)]
+mod tests;
 
 pub use answers::{Decision, decide, law_answers};
 pub use bk_state::Rule;

@@ -1,0 +1,33 @@
+// Tests of what no clause says: that modes and rows work together through `Flags`.
+
+use crate::{Kind, Modes, Row};
+use bitflags::Flags;
+
+// The numbers of the kinds' modes: r 1, e 2, w 4, a 8.
+#[test]
+fn kinds_have_their_modes(rt: HostRuntime) {
+    let rows = [
+        (Kind::Directory, 5),
+        (Kind::Segment, 15),
+        (Kind::Mailbox, 12),
+        (Kind::Line(3), 12),
+    ];
+    for (kind, bits) in rows {
+        assert_eq!(rt; kind.modes().bits(), bits);
+    }
+}
+
+// A row keeps what each subject has, beside its neighbour's.
+#[test]
+fn rows_keep_each_subject_apart(rt: HostRuntime) {
+    let mut row = Row::new();
+    row.add(6, Modes::R | Modes::W);
+    row.add(7, Modes::A);
+    row.add(6, Modes::E);
+    row.remove(6, Modes::W);
+    assert_eq!(rt; row.get(6).bits(), 3);
+    assert_eq!(rt; row.get(7).bits(), 8);
+    assert_eq!(rt; row.get(31).bits(), 0);
+    assert!(rt; row.get(6).contains(Modes::R));
+    assert_eq!(rt; Modes::from_bits(16), None);
+}
