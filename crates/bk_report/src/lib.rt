@@ -17,3 +17,6 @@ pub use parts::cut;
 pub use printing::{print, put, put_decimal, put_octal, put_word};
 pub use reading::read_item;
 pub use records::line_records;
+
+#[cfg(test)]
+mod tests;
