@@ -1,4 +1,4 @@
-use Rattle.std.proofs.Common.{◌≡◌, ◌≢◌, ℕ, zero, suc, ◌+◌, ◌-◌, ◌*◌, ◌/◌, ◌%◌, ◌<◌, refl, sym, ◌∙◌, ap, arith, Bool, true, false, Some, None, IfNone, option_map}
+use Rattle.std.proofs.Common.{◌≡◌, ◌≢◌, ℕ, ◌+◌, ◌*◌, ◌/◌, ◌%◌, ◌<◌, refl, sym, ◌∙◌, ap, arith, Bool, true, false, Some, None, IfNone, option_map}
 use Rattle.std.specs.Prelude.{Option}
 use Rattle.std.specs.Option.{option_or}
 use Rattle.std.proofs.lemmas.Bool.Decides.{nat_tests}
@@ -18,7 +18,7 @@ use Rattle.bk_isa.specs.declared.operation.Cond.TheVariants.{Br, Bne, Beq, Bge, 
 use Rattle.bk_isa.specs.declared.instr.Instr.{Instr}
 use Rattle.bk_isa.specs.declared.instr.Instr.TheVariants.{Double, Single, Xor, Eis, Jmp, Jsr, Rts, Sob, Mark, Mfp, Mtp, Branch, Codes, Spl, Emt, Trap, Halt, Wait, Rti, Bpt, Iot, Reset, Rtt}
 use Rattle.bk_isa.specs.Codes.{number_of, IsField, HasDouble, HasSingle, IsListed, code_of, primary}
-use Rattle.bk_isa.specs.Decode.{look_up, doubles, eis, registers, branches, numbers, field_at, double_at, register_at, number_at, single_at, parts_of, decode_of}
+use Rattle.bk_isa.specs.Decode.{look_up, doubles, eis, registers, branches, numbers, field_at, register_at, number_at, single_at, parts_of, decode_of}
 
 -- a field is read again from its number
 field_again : (f : Field) → IsField f → field_at (number_of f) ≡ f

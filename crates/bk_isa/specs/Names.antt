@@ -1,38 +1,114 @@
-use Rattle.std.specs.Prelude.{ℕ, Bool, true, false, ◌&&◌, ◌||◌, not, ◌+◌, ◌-◌, nat_lt, nat_le, List, [], ◌∷◌, take, Option, option_map}
-use Rattle.std.specs.Str.{bytes_eq}
-use Rattle.std.specs.List.{list_all}
-use Rattle.bk_isa.specs.Decode.{decode_of}
-use Rattle.bk_isa.specs.declared.mnemonic.Mnemonic.{Mnemonic}
+use Rattle.std.specs.Prelude.{ℕ, true, false, List, [], ◌∷◌, ◌++◌, codes, unwrap_or}
+use Rattle.bk_space.specs.declared.reference.Width.{Width}
+use Rattle.bk_space.specs.declared.reference.Width.TheVariants.{Word, Byte}
+use Rattle.bk_space.specs.declared.reference.Space.{Space}
+use Rattle.bk_space.specs.declared.reference.Space.TheVariants.{I, D}
+use Rattle.bk_isa.specs.declared.operation.Bin.{Bin}
+use Rattle.bk_isa.specs.declared.operation.Bin.TheVariants.{Mov, Cmp, Bit, Bic, Bis, Add, Sub}
+use Rattle.bk_isa.specs.declared.operation.Un.{Un}
+use Rattle.bk_isa.specs.declared.operation.Un.TheVariants.{Clr, Com, Inc, Dec, Neg, Adc, Sbc, Tst, Ror, Rol, Asr, Asl, Swab, Sxt}
+use Rattle.bk_isa.specs.declared.operation.EisOp.{EisOp}
+use Rattle.bk_isa.specs.declared.operation.EisOp.TheVariants.{Mul, Div, Ash, Ashc}
+use Rattle.bk_isa.specs.declared.operation.Cond.{Cond}
+use Rattle.bk_isa.specs.declared.operation.Cond.TheVariants.{Br, Bne, Beq, Bge, Blt, Bgt, Ble, Bpl, Bmi, Bhi, Blos, Bvc, Bvs, Bcc, Bhis, Bcs, Blo}
 use Rattle.bk_isa.specs.declared.mnemonic.Form.{Form}
 use Rattle.bk_isa.specs.declared.mnemonic.Form.TheVariants as form
-use Rattle.bk_isa.specs.declared.table.Row.{Row}
 use Rattle.bk_isa.specs.declared.instr.Instr.{Instr}
 use Rattle.bk_isa.specs.declared.instr.Instr.TheVariants.{Double, Single, Xor, Eis, Jmp, Jsr, Rts, Sob, Mark, Mfp, Mtp, Branch, Codes, Spl, Emt, Trap, Halt, Wait, Rti, Bpt, Iot, Reset, Rtt}
+use Rattle.bk_isa.specs.Decode.{look_up}
 
--- the name of a row; the empty one where it has none
-abbrev pub name_of : Row → List ℕ
-name_of row = take row.letters row.name
+abbrev pub bin_name : Bin → List ℕ
+bin_name Mov = codes "MOV"
+bin_name Cmp = codes "CMP"
+bin_name Bit = codes "BIT"
+bin_name Bic = codes "BIC"
+bin_name Bis = codes "BIS"
+bin_name Add = codes "ADD"
+bin_name Sub = codes "SUB"
 
--- the row has a name, and it is this one
-abbrev pub is_named : List ℕ → Row → Bool
-is_named name row = nat_lt 0 row.letters && bytes_eq (name_of row) name
+abbrev pub un_name : Un → List ℕ
+un_name Clr = codes "CLR"
+un_name Com = codes "COM"
+un_name Inc = codes "INC"
+un_name Dec = codes "DEC"
+un_name Neg = codes "NEG"
+un_name Adc = codes "ADC"
+un_name Sbc = codes "SBC"
+un_name Tst = codes "TST"
+un_name Ror = codes "ROR"
+un_name Rol = codes "ROL"
+un_name Asr = codes "ASR"
+un_name Asl = codes "ASL"
+un_name Swab = codes "SWAB"
+un_name Sxt = codes "SXT"
 
-abbrev pub meaning_of : Row → Mnemonic
-meaning_of row = record { base = row.base; form = row.form }
+abbrev pub eis_name : EisOp → List ℕ
+eis_name Mul = codes "MUL"
+eis_name Div = codes "DIV"
+eis_name Ash = codes "ASH"
+eis_name Ashc = codes "ASHC"
 
--- two rows cover no common word
-abbrev pub is_apart : Row → Row → Bool
-is_apart a b = nat_le (a.base + a.words) b.base || nat_le (b.base + b.words) a.base
+abbrev pub cond_name : Cond → List ℕ
+cond_name Br = codes "BR"
+cond_name Bne = codes "BNE"
+cond_name Beq = codes "BEQ"
+cond_name Bge = codes "BGE"
+cond_name Blt = codes "BLT"
+cond_name Bgt = codes "BGT"
+cond_name Ble = codes "BLE"
+cond_name Bpl = codes "BPL"
+cond_name Bmi = codes "BMI"
+cond_name Bhi = codes "BHI"
+cond_name Blos = codes "BLOS"
+cond_name Bvc = codes "BVC"
+cond_name Bvs = codes "BVS"
+cond_name Bcc = codes "BCC"
+cond_name Bhis = codes "BHIS"
+cond_name Bcs = codes "BCS"
+cond_name Blo = codes "BLO"
 
--- each row is apart from each row after it
-abbrev pub all_apart : List Row → Bool
-all_apart [] = true
-all_apart (row ∷ rows) = list_all (is_apart row) rows && all_apart rows
+-- the byte form's name ends with B
+abbrev pub width_letter : Width → List ℕ
+width_letter Word = []
+width_letter Byte = codes "B"
 
--- no two rows have one name
-abbrev pub all_differ : List Row → Bool
-all_differ [] = true
-all_differ (row ∷ rows) = list_all (λ other. not (is_named (name_of row) other)) rows && all_differ rows
+abbrev pub space_letter : Space → List ℕ
+space_letter I = codes "I"
+space_letter D = codes "D"
+
+-- the condition codes have names where one flag, all or none are meant; the others have none
+abbrev pub clear_name : ℕ → List ℕ
+clear_name mask = unwrap_or (look_up ((0, codes "NOP") ∷ (1, codes "CLC") ∷ (2, codes "CLV") ∷ (4, codes "CLZ") ∷ (8, codes "CLN") ∷ (15, codes "CCC") ∷ []) mask) []
+
+abbrev pub set_name : ℕ → List ℕ
+set_name mask = unwrap_or (look_up ((1, codes "SEC") ∷ (2, codes "SEV") ∷ (4, codes "SEZ") ∷ (8, codes "SEN") ∷ (15, codes "SCC") ∷ []) mask) []
+
+-- the name of an instruction; the empty one where it has none
+abbrev pub name_of : Instr → List ℕ
+name_of (Double op width src dst) = bin_name op ++ width_letter width
+name_of (Single op width dst) = un_name op ++ width_letter width
+name_of (Xor reg dst) = codes "XOR"
+name_of (Eis op reg src) = eis_name op
+name_of (Jmp dst) = codes "JMP"
+name_of (Jsr reg dst) = codes "JSR"
+name_of (Rts reg) = codes "RTS"
+name_of (Sob reg back) = codes "SOB"
+name_of (Mark count) = codes "MARK"
+name_of (Mfp space src) = codes "MFP" ++ space_letter space
+name_of (Mtp space dst) = codes "MTP" ++ space_letter space
+name_of (Branch cond offset) = cond_name cond
+name_of (Codes false mask) = clear_name mask
+name_of (Codes true mask) = set_name mask
+name_of (Spl level) = codes "SPL"
+name_of (Emt n) = codes "EMT"
+name_of (Trap n) = codes "TRAP"
+name_of Halt = codes "HALT"
+name_of Wait = codes "WAIT"
+name_of Rti = codes "RTI"
+name_of Bpt = codes "BPT"
+name_of Iot = codes "IOT"
+name_of Reset = codes "RESET"
+name_of Rtt = codes "RTT"
 
 -- how an instruction is written
 abbrev pub form_of : Instr → Form
@@ -59,14 +135,3 @@ form_of Bpt = form.Alone
 form_of Iot = form.Alone
 form_of Reset = form.Alone
 form_of Rtt = form.Alone
-
--- the row covers words of its own
-abbrev pub has_words : Row → Bool
-has_words row = nat_lt 0 row.words
-
--- how the first and the last word that a row covers are written
-abbrev pub first_form : Row → Option Form
-first_form row = option_map form_of (decode_of row.base)
-
-abbrev pub last_form : Row → Option Form
-last_form row = option_map form_of (decode_of (row.base + row.words - 1))

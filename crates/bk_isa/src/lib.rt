@@ -1,9 +1,8 @@
 //! The instruction table: each word's instruction, each instruction's word, and each name's.
 //!
-//! Model: `specs/Codes.antt` (`code_of`, `IsListed`, `primary`), `specs/Decode.antt` (`decode_of`), `specs/Names.antt`;
-//! for the crates above, `specs/Numbers.antt`, `specs/Results.antt` and `specs/Extended.antt`: results and flags by whole numbers.
+//! Model: `specs/Codes.antt` (`code_of`, `IsListed`, `primary`), `specs/Decode.antt` (`decode_of`), `specs/Names.antt` (`name_of`) and `specs/Rows.antt`; for the crates above, results and flags by whole numbers: `specs/Numbers.antt`, `specs/Results.antt` (`binary_of`, `unary_of`) and `specs/Extended.antt` (`mul_of`, `div_of`, `ash_of`, `ashc_of`).
 //! Calls: `decode`, `encode`, `by_name`; `law_rows`, `law_names`.
-//! Proved: `decode` and `encode` are inverse, over all words; no two rows of the table cover one word.
+//! Proved: `decode` and `encode` are inverse over all words, and the table's rows have each word once, with the name of its instruction.
 //! Stands on: `bk_space`.
 #![tactic(auto)]
 
@@ -12,6 +11,8 @@ mod instr;
 mod mnemonic;
 mod operation;
 mod table;
+#[cfg(test)]
+mod tests;
 
 pub use codes::{decode, encode};
 pub use instr::Instr;

@@ -1,7 +1,11 @@
-ghost use Rattle.std.specs.Prelude.{◌≡◌, ◌<◌, ◌+◌, ◌-◌, IsTrue, IsSome, IfSome, IfNone, Contains, Some, find, filter, map, option_map, sum_by};
+ghost use Rattle.std.specs.Prelude.{◌≡◌, ◌<◌, ◌^◌, ℕ, IsTrue, Some, codes, find, map, option_map};
 ghost use Rattle.bk_isa.specs.declared.table.Row.{Row};
+ghost use Rattle.bk_isa.specs.declared.instr.Instr.TheVariants.{Branch};
+ghost use Rattle.bk_isa.specs.declared.operation.Cond.TheVariants.{Bhis, Blo};
+ghost use Rattle.bk_isa.specs.Codes.{code_of};
 ghost use Rattle.bk_isa.specs.Decode.{decode_of};
-ghost use Rattle.bk_isa.specs.Names.{is_named, meaning_of, all_apart, all_differ, has_words, first_form, last_form};
+ghost use Rattle.bk_isa.specs.Names.{name_of};
+ghost use Rattle.bk_isa.specs.Rows.{row_name, is_named, meaning_of, covers, all_apart, all_differ, first_form};
 
 use crate::mnemonic::{Form, Mnemonic};
 
@@ -165,16 +169,17 @@ pub fn by_name(name: &[u8]) -> Option<Mnemonic>
     })
 }
 
-/// The table has each word once: no two rows cover one word, and the first and the last word of each row that covers
-/// any are instructions of the row's form. Its rows cover 59,191 words.
+/// No two rows cover one word; the row that covers a word has the name of the word's instruction, and none covers a word
+/// that is none; and each row's form is that of the instruction of its first word.
 pub fn law_rows()
     ensures apart { IsTrue (all_apart TABLE) }
-    ensures first { map first_form TABLE ≡ map (λ row. Some row.form) TABLE }
-    ensures last { map last_form (filter has_words TABLE) ≡ map (λ row. Some row.form) (filter has_words TABLE) }
-    ensures count { sum_by (λ row. row.words) TABLE ≡ 59191 }
+    ensures names { (word : ℕ) → word < 2 ^ 16 → option_map name_of (decode_of word) ≡ option_map row_name (find (covers word) TABLE) }
+    ensures forms { map first_form TABLE ≡ map (λ row. Some row.form) TABLE }
 {}
 
-/// No two rows have one name.
+/// No two rows have one name; BHIS and BLO, whose rows cover no word of their own, stand for their branches.
 pub fn law_names()
-    ensures { IsTrue (all_differ TABLE) }
+    ensures differ { IsTrue (all_differ TABLE) }
+    ensures bhis { option_map (λ row. row.base) (find (is_named (codes "BHIS")) TABLE) ≡ Some (code_of (Branch Bhis 0)) }
+    ensures blo { option_map (λ row. row.base) (find (is_named (codes "BLO")) TABLE) ≡ Some (code_of (Branch Blo 0)) }
 {}

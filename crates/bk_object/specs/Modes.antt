@@ -1,5 +1,5 @@
 -- Access modes and sets of them.
-use Rattle.std.specs.Prelude.{ℕ, ◌+◌, ◌/◌, ◌%◌, Bool, true, false, ◌&&◌, ◌||◌, not, ◌==◌, if◌then◌else◌}
+use Rattle.std.specs.Prelude.{ℕ, ◌+◌, ◌/◌, ◌%◌, Bool, ◌&&◌, ◌||◌, not, ◌==◌, if◌then◌else◌}
 use Rattle.bk_object.specs.declared.modes.Modes.{Modes}
 
 pub data Mode : Type 0 where

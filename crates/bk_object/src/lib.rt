@@ -1,7 +1,7 @@
 //! Objects: their kinds, access modes, rows, and the facts that are kept of each.
 //!
 //! Model: `specs/Modes.antt` (`Mode`, `has`, `union`, `without`), `specs/Kinds.antt` (`kind_modes`), `specs/Rows.antt` (`in_row`, `given`, `rescinded`).
-//! Calls: `Kind::modes`; `Row::new`, `get`, `add`, `remove`; the operations of `Modes` as flags.
+//! Calls: `Kind::modes`; `Row::new`, `get`, `add`, `remove`; `Modes::is_within`, and the operations of `Modes` as flags.
 //! Proved: a row answers for each subject what was added to it and not removed since; each kind has its modes.
 //! Stands on: `bitflags`.
 #![tactic(auto)]
@@ -13,5 +13,5 @@ mod row;
 
 pub use facts::{Facts, Slot};
 pub use kind::Kind;
-pub use modes::Modes;
+pub use modes::{Modes, law_modes};
 pub use row::Row;

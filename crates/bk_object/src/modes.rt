@@ -1,6 +1,7 @@
 // Sets of access modes.
 
-ghost use Rattle.std.specs.Prelude.{⊤, [], ◌∷◌, codes};
+ghost use Rattle.std.specs.Prelude.{⊤, ◌≡◌, ◌<◌, ◌&&◌, ◌||◌, not, false, Bool, [], ◌∷◌, codes};
+ghost use Rattle.bk_object.specs.Modes as model;
 
 use bitflags::{Flag, Flags, bitflag_items};
 
@@ -42,3 +43,37 @@ impl Flags for Modes {
         Modes(bits)
     }
 }
+
+impl Modes {
+    /// Whether each mode of the set is one of the other's.
+    pub fn is_within(self, of: Modes) -> bool
+        ensures { result ≡ model.is_within self of }
+    {
+        difference_of(self, of).bits() == 0
+    }
+}
+
+// The modes of either set.
+pub(crate) fn union_of(a: Modes, b: Modes) -> Modes
+    ensures value { result ≡ model.union a b }
+    ensures four { result.0 < 16 }
+{
+    Modes::from_bits_retain((a.bits() | b.bits()) % 16)
+}
+
+// The modes of the first set that are none of the second's.
+pub(crate) fn difference_of(a: Modes, b: Modes) -> Modes
+    ensures value { result ≡ model.without a b }
+    ensures four { result.0 < 16 }
+{
+    Modes::from_bits_retain((a.bits() & !b.bits()) % 16)
+}
+
+/// What a set made by a test, a union, a difference and the empty set have; two sets of these four modes with the same modes are equal.
+pub fn law_modes()
+    ensures by_test { (test : model.Mode → Bool) (mode : model.Mode) → model.has (model.modes_where test) mode ≡ test mode }
+    ensures union { (a b : Modes) (mode : model.Mode) → model.has (model.union a b) mode ≡ (model.has a mode || model.has b mode) }
+    ensures without { (a b : Modes) (mode : model.Mode) → model.has (model.without a b) mode ≡ (model.has a mode && not (model.has b mode)) }
+    ensures none { (mode : model.Mode) → model.has model.no_modes mode ≡ false }
+    ensures same { (a b : Modes) → a.0 < 16 → b.0 < 16 → ((mode : model.Mode) → model.has a mode ≡ model.has b mode) → a ≡ b }
+{}

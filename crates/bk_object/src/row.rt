@@ -1,10 +1,12 @@
 // Rows: which subject may hold an object by which modes.
 
-ghost use Rattle.std.specs.Prelude.{◌≡◌, ◌<◌, replicate};
-ghost use Rattle.bk_object.specs.Rows.{in_row, given, rescinded};
-ghost use Rattle.bk_object.specs.Modes.{no_modes};
+ghost use Rattle.std.specs.Prelude.{◌≡◌, ◌<◌, replicate, slice_set};
+ghost use Rattle.bk_object.specs.Modes.{no_modes, union, without};
+ghost use Rattle.bk_object.specs.Rows.{given, in_row, rescinded};
 
 use crate::Modes;
+use crate::modes::{difference_of, union_of};
+use bitflags::Flags;
 use std::marker::Model;
 
 /// The access modes that an object grants to each of 32 subjects.
@@ -30,4 +32,59 @@ impl Model for Row {
     ghost inverse = { pairs_of };
 
     ghost inverse_ok = { pairs_of-sets_of };
+}
+
+impl Row {
+    /// A row that grants nothing to any subject.
+    pub fn new() -> Row
+        ensures { result ≡ replicate 32 no_modes }
+    {
+        Row { pairs: [0; 16] }
+    }
+
+    /// The modes that the subject has in the row.
+    pub fn get(&self, subject: u8) -> Modes
+        requires { subject < 32 }
+        ensures value { result ≡ in_row self.now subject }
+        ensures four { result.0 < 16 }
+    {
+        let pair = self.pairs[subject as usize / 2];
+        if subject % 2 == 0 {
+            Modes::from_bits_retain(pair % 16)
+        } else {
+            Modes::from_bits_retain(pair / 16)
+        }
+    }
+
+    /// The subject has these modes too; all other subjects keep theirs.
+    pub fn add(&mut self, subject: u8, modes: Modes)
+        requires { subject < 32 }
+        ensures { self.new ≡ given subject modes self.old }
+    {
+        let set = union_of(self.get(subject), modes);
+        self.set(subject, set);
+    }
+
+    /// The subject no longer has these modes; all other subjects keep theirs.
+    pub fn remove(&mut self, subject: u8, modes: Modes)
+        requires { subject < 32 }
+        ensures { self.new ≡ rescinded subject modes self.old }
+    {
+        let set = difference_of(self.get(subject), modes);
+        self.set(subject, set);
+    }
+
+    // The subject's set becomes this one.
+    fn set(&mut self, subject: u8, modes: Modes)
+        requires subject { subject < 32 }
+        requires modes { modes.0 < 16 }
+        ensures { self.new ≡ slice_set self.old subject modes }
+    {
+        let place = subject as usize / 2;
+        self.pairs[place] = if subject % 2 == 0 {
+            self.pairs[place] / 16 * 16 + modes.bits()
+        } else {
+            self.pairs[place] % 16 + 16 * modes.bits()
+        };
+    }
 }

@@ -1,2 +1,4 @@
 pub mod Paths
+pub mod Orders
 pub mod Packed
+pub mod Spelt

@@ -8,4 +8,4 @@
 
 mod path;
 
-pub use path::Path;
+pub use path::{Path, law_packing, law_paths};

@@ -1,8 +1,13 @@
 // A path, kept as the two words that it is packed in.
 
-ghost use Rattle.std.specs.Prelude.{◌≡◌, [], ◌∷◌, ℕ, length};
+ghost use Rattle.std.specs.Prelude.{◌≡◌, ◌≢◌, ◌≤◌, ◌<◌, ◌^◌, ◌+◌, ◌*◌, ◌⊎◌, ◌↔◌, ◌==◌, nat_lt, [], ◌∷◌, ℕ, List, length, reverse, take, drop, Some, refl, slice_get, IsTrue, IsNone, IfSome, true};
+ghost use Rattle.std.specs.List.{list_all};
+ghost use Rattle.std.specs.Cmp;
+ghost use Rattle.bk_path.specs.Orders.{is_same_equiv, path_partial, path_total, ties-same};
 ghost use Rattle.bk_path.specs.Paths as model;
+ghost use Rattle.bk_path.specs.Spelt.{Spells};
 
+use std::cmp::Ordering;
 use std::marker::Model;
 
 /// At most 7 entries, each 0 to 15. No entry is root.
@@ -30,6 +35,49 @@ impl Model for Path {
     ghost inverse_ok = { packed-path_of };
 }
 
+impl PartialEq for Path {
+    ghost eq = { model.is_same };
+
+    ghost laws = { Cmp.partial_equiv_from_equiv is_same_equiv };
+
+    fn eq(&self, other: &Path) -> bool {
+        self.first == other.first && self.second == other.second
+    }
+}
+
+impl Eq for Path {
+    ghost laws = { is_same_equiv };
+}
+
+/// The order of lists from root on: a path comes before what it begins.
+impl Ord for Path {
+    ghost cmp = { model.path_cmp };
+
+    ghost total = { path_total };
+
+    ghost matches_partial_cmp = { λ p q. refl };
+
+    ghost matches_eq = { λ p q. Prim.search (ties-same) };
+
+    fn cmp(&self, other: &Path) -> Ordering {
+        let mine = self.entries();
+        let its = other.entries();
+        let mine: &[u8] = &mine[..self.depth() as usize];
+        let its: &[u8] = &its[..other.depth() as usize];
+        mine.cmp(&its)
+    }
+}
+
+impl PartialOrd for Path {
+    ghost partial_cmp = { λ p q. Some (model.path_cmp p q) };
+
+    ghost laws = { path_partial };
+
+    fn partial_cmp(&self, other: &Path) -> Option<Ordering> {
+        Some(self.cmp(other))
+    }
+}
+
 impl Path {
     /// The path with no entries.
     pub fn root() -> Path
@@ -40,4 +88,158 @@ impl Path {
             second: 0,
         }
     }
+
+    /// The path with one more entry: None exactly at depth 7 or where the entry is over 15.
+    pub fn child(self, entry: u8) -> Option<Path>
+        ensures some { IfSome result (λ path. path ≡ entry ∷ self) }
+        ensures none { IsNone result ↔ ((length self ≡ 7) ⊎ (16 ≤ entry)) }
+    {
+        let depth = self.depth();
+        if depth == 7 || entry > 15 {
+            return None;
+        }
+        let mut entries = self.entries();
+        entries[depth as usize] = entry;
+        Some(Path::from_entries(entries, depth + 1))
+    }
+
+    /// The path without its last entry: None exactly for root.
+    pub fn parent(self) -> Option<Path>
+        ensures some { IfSome result (λ path. path ≡ model.parent self) }
+        ensures none { IsNone result ↔ (self ≡ []) }
+    {
+        let depth = self.depth();
+        if depth == 0 {
+            return None;
+        }
+        let mut entries = self.entries();
+        entries[depth as usize - 1] = 0;
+        Some(Path::from_entries(entries, depth - 1))
+    }
+
+    /// How many entries the path has.
+    pub fn depth(self) -> u8
+        ensures value { result ≡ length self }
+        ensures seven { result ≤ 7 }
+    {
+        (self.first / 4096) as u8
+    }
+
+    /// The entry with that number from root on: None exactly from the depth on.
+    pub fn entry(self, n: u8) -> Option<u8>
+        ensures { result ≡ slice_get (reverse self) n }
+    {
+        if n < self.depth() {
+            Some(self.entries()[n as usize])
+        } else {
+            None
+        }
+    }
+
+    /// Whether the path begins with the other. Each path is inferior to itself and to root.
+    pub fn is_inferior(self, of: Path) -> bool
+        ensures value { result ≡ model.is_inferior self of }
+        ensures fact { IsTrue result ↔ model.IsInferior self of }
+    {
+        let mine = self.entries();
+        let its = of.entries();
+        let depth = of.depth() as usize;
+        depth <= self.depth() as usize && mine[..depth] == its[..depth]
+    }
+
+    /// The two words of the path: the depth in bits 15 to 12 of the first, then the entries in four bits each.
+    pub fn pack(self) -> (u16, u16)
+        ensures value { result ≡ model.pack self }
+        ensures back { model.unpack result.0 result.1 ≡ Some self }
+        ensures path { model.IsPath self }
+    {
+        (self.first, self.second)
+    }
+
+    /// The path that the two words are packed from: None exactly where no path packs so.
+    pub fn unpack(first: u16, second: u16) -> Option<Path>
+        ensures value { result ≡ model.unpack first second }
+        ensures some { IfSome result (λ path. model.pack path ≡ (first, second)) }
+        ensures none { IsNone result → (path : List ℕ) → model.IsPath path → model.pack path ≢ (first, second) }
+    {
+        let depth = (first / 4096) as usize;
+        if depth > 7 {
+            return None;
+        }
+        let entries = entries_of(first, second);
+        if is_zero(&entries[depth..]) {
+            Some(Path { first, second })
+        } else {
+            None
+        }
+    }
+
+    // The entries, root first, and zeros from the depth on.
+    fn entries(self) -> [u8; 7]
+        ensures { Spells result self }
+    {
+        entries_of(self.first, self.second)
+    }
+
+    // The path of the first `depth` entries, where the others are zeros.
+    fn from_entries(entries: [u8; 7], depth: u8) -> Path
+        requires depth { depth ≤ 7 }
+        requires small { list_all (λ entry. nat_lt entry 16) entries ≡ true }
+        requires zeros { list_all (λ entry. entry == 0) (drop depth entries) ≡ true }
+        ensures { result ≡ reverse (take depth entries) }
+    {
+        let [a, b, c, d, e, f, g] = entries;
+        Path {
+            first: word(depth, a, b, c),
+            second: word(d, e, f, g),
+        }
+    }
+}
+
+/// Prefixes, parents and children of paths, as lists.
+pub fn law_paths()
+    ensures prefix { (a b c : List ℕ) → model.IsInferior a b → model.IsInferior b c → model.IsInferior a c }
+    ensures parent_of_child { (entry : ℕ) (path : List ℕ) → model.parent (entry ∷ path) ≡ path }
+    ensures child_of_parent { (path : List ℕ) → path ≢ [] → (entry : ℕ) × (entry ∷ model.parent path ≡ path) }
+{}
+
+/// Packing and unpacking are inverse, and packing is injective.
+pub fn law_packing()
+    ensures back { (path : List ℕ) → model.IsPath path → model.unpack (model.pack path).0 (model.pack path).1 ≡ Some path }
+    ensures only { (first second : ℕ) (path : List ℕ) → first < 2 ^ 16 → second < 2 ^ 16 →
+        model.unpack first second ≡ Some path → (model.pack path ≡ (first, second)) × model.IsPath path }
+    ensures injective { (p q : List ℕ) → model.IsPath p → model.IsPath q → model.pack p ≡ model.pack q → p ≡ q }
+{}
+
+// Four numbers below 16, the first in bits 15 to 12.
+fn word(a: u8, b: u8, c: u8, d: u8) -> u16
+    requires a { a < 16 }
+    requires b { b < 16 }
+    requires c { c < 16 }
+    requires d { d < 16 }
+    ensures { result ≡ 4096 * a + 256 * b + 16 * c + d }
+{
+    4096 * u16::from(a) + 256 * u16::from(b) + 16 * u16::from(c) + u16::from(d)
+}
+
+// The seven entries of two words.
+fn entries_of(first: u16, second: u16) -> [u8; 7]
+    ensures { result ≡ model.entries_of first second }
+{
+    [
+        (first / 256 % 16) as u8,
+        (first / 16 % 16) as u8,
+        (first % 16) as u8,
+        (second / 4096) as u8,
+        (second / 256 % 16) as u8,
+        (second / 16 % 16) as u8,
+        (second % 16) as u8,
+    ]
+}
+
+// Whether all the entries are 0.
+fn is_zero(entries: &[u8]) -> bool
+    ensures { result ≡ list_all (λ entry. entry == 0) entries.now }
+{
+    entries.iter().all(|entry| *entry == 0)
 }

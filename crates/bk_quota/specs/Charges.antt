@@ -1,5 +1,5 @@
 -- What objects are charged, and to which cell, over a map from paths to values that have facts.
-use Rattle.std.specs.Prelude.{ℕ, ◌+◌, Bool, true, false, ◌&&◌, not, [], ◌∷◌, Option, Some, None, ◌==◌, sum_by, unwrap_or, option_map, if◌then◌else◌}
+use Rattle.std.specs.Prelude.{ℕ, ◌+◌, Bool, false, ◌&&◌, not, [], ◌∷◌, Option, Some, None, ◌==◌, sum_by, unwrap_or, option_map, if◌then◌else◌}
 use Rattle.std.specs.FinMap as map
 use Rattle.bk_object.specs.declared.Kind.{Kind}
 use Rattle.bk_object.specs.declared.Kind.TheVariants.{Directory, Segment, Mailbox, Line}

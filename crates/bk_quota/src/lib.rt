@@ -1,11 +1,13 @@
 //! Quota cells: what each object is charged, which cell pays for it, and how much of a cell's limit is used.
 //!
-//! Model: `specs/Charges.antt` (`charge_of`, `governing_in`, `used_in`).
+//! Model: `specs/Charges.antt` (`charge_of`, `governing_in`, `used_in`), `specs/Usage.antt` (`Usage`, `charged`).
 //! Calls: `Cell::new`, `charge`, `give_back`, `limit`, `used`; `charge_of`.
-//! Proved: a cell takes a charge exactly where it fits, and changes in nothing else; each object's charge is its definition.
+//! Proved: a cell takes a charge exactly where it fits, and changes in nothing else; each object's charge is its definition. That the counters of a tree are the used numbers is for the crate that keeps them.
 //! Stands on: `bk_object`, `bk_path`.
 #![tactic(auto)]
 
 mod cell;
+mod charges;
 
 pub use cell::Cell;
+pub use charges::charge_of;

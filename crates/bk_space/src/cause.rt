@@ -1,3 +1,7 @@
+ghost use Rattle.std.specs.Prelude.{◌≡◌};
+
+use crate::reference::Abort;
+
 /// Why an instruction ends as a fault. The faults are numbered 0 to 7 in this order; the first four are the aborts.
 #[derive(Clone, Copy, PartialEq, Eq, Debug)]
 pub enum Cause {
@@ -17,4 +21,19 @@ pub enum Cause {
     Iot,
     /// TRAP.
     Trap,
+}
+
+impl From<Abort> for Cause {
+    ghost use Rattle.bk_space.specs.Faults.{cause_of};
+
+    ghost from_gives = { λ abort cause. cause ≡ cause_of abort };
+
+    fn from(abort: Abort) -> Cause {
+        match abort {
+            Abort::Odd => Cause::Odd,
+            Abort::NonResident => Cause::NonResident,
+            Abort::Length => Cause::Length,
+            Abort::ReadOnly => Cause::ReadOnly,
+        }
+    }
 }

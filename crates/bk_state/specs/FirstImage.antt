@@ -1,5 +1,5 @@
 -- First images: the sample's image with any 14 words of program, the last of which isn't 0.
-use Rattle.std.specs.Prelude.{◌≡◌, ℕ, ◌+◌, ◌*◌, ◌<◌, ◌^◌, Bool, not, ◌&&◌, List, [], ◌∷◌, ◌++◌, length, take, drop, replicate, slice_index, bytes_eq, Option, Some, None, ◌==◌, nat_le, if◌then◌else◌, All}
+use Rattle.std.specs.Prelude.{◌≡◌, ℕ, ◌+◌, ◌*◌, Bool, not, ◌&&◌, List, [], ◌∷◌, length, take, drop, replicate, slice_index, bytes_eq, Option, Some, None, ◌==◌, nat_le, if◌then◌else◌}
 use Rattle.bk_level.specs.Levels.{Level}
 use Rattle.bk_path.specs.Paths.{Path}
 use Rattle.bk_object.specs.declared.kind.Kind.{Kind}
@@ -29,9 +29,14 @@ level_of_class class = record { class = class; categories = [] }
 -- a subject at its one level, with user mode, R5 the first word of its line's path, and window 16 on /0
 abbrev pub subject_at : (level line_word : ℕ) → SubjectRec
 subject_at level line_word = record {
-  f_s = level; f_c = level; mode = User; previous = User;
+  f_s = level;
+  f_c = level;
+  mode = User;
+  previous = User;
   regs = 0 ∷ 0 ∷ 0 ∷ 0 ∷ 0 ∷ line_word ∷ [];
-  user_sp = 0; super_sp = 0; pc = 0;
+  user_sp = 0;
+  super_sp = 0;
+  pc = 0;
   entries = replicate 8 0;
   windows = record { index = 16; path = 0 ∷ [] } ∷ [];
 }
@@ -55,15 +60,15 @@ first_image words = record {
   schedule = 0 ∷ 1 ∷ [];
   subjects = subject_at 0 0o010400 ∷ subject_at 1 0o011000 ∷ [];
   objects =
-    object_at [] (facts_with Directory 0 0 16 (row_of 1 1)) []
-    ∷ object_at (0 ∷ []) (facts_with Segment 1 0 0 (row_of 3 3)) words
-    ∷ object_at (1 ∷ []) (facts_with (Line 0) 0 0 0 (row_of 4 0)) []
-    ∷ object_at (2 ∷ []) (facts_with (Line 1) 0 1 0 (row_of 0 4)) []
-    ∷ [];
+      object_at [] (facts_with Directory 0 0 16 (row_of 1 1)) []
+      ∷ object_at (0 ∷ []) (facts_with Segment 1 0 0 (row_of 3 3)) words
+      ∷ object_at (1 ∷ []) (facts_with (Line 0) 0 0 0 (row_of 4 0)) []
+      ∷ object_at (2 ∷ []) (facts_with (Line 1) 0 1 0 (row_of 0 4)) []
+      ∷ [];
   holds =
-    hold_of 0 1 [] ∷ hold_of 0 2 (0 ∷ []) ∷ hold_of 0 4 (1 ∷ [])
-    ∷ hold_of 1 1 [] ∷ hold_of 1 2 (0 ∷ []) ∷ hold_of 1 4 (2 ∷ [])
-    ∷ [];
+      hold_of 0 1 [] ∷ hold_of 0 2 (0 ∷ []) ∷ hold_of 0 4 (1 ∷ [])
+      ∷ hold_of 1 1 [] ∷ hold_of 1 2 (0 ∷ []) ∷ hold_of 1 4 (2 ∷ [])
+      ∷ [];
 }
 
 -- the image is a first image

@@ -1,5 +1,9 @@
 pub mod State
 pub mod Maps
 pub mod Named
+pub mod Quota
+pub mod Secure
+pub mod Checks
+pub mod Changes
 pub mod Start
 pub mod FirstImage

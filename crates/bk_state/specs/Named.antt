@@ -1,14 +1,10 @@
 -- Which objects a subject may name in a call.
-use Rattle.std.specs.Prelude.{ℕ, Bool, true, false, ◌&&◌, ◌||◌, [], ◌∷◌, Option, Some, None}
+use Rattle.std.specs.Prelude.{ℕ, Bool, true, ◌&&◌, ◌||◌, [], ◌∷◌}
 use Rattle.bk_path.specs.Paths.{Path}
 use Rattle.bk_object.specs.Modes.{Read, Write}
 use Rattle.bk_object.specs.Kinds.{is_directory}
+pub use Rattle.bk_quota.specs.Charges.{passes}
 use Rattle.bk_state.specs.State.{State, facts_at, holds}
-
--- there is a value, and it passes the test
-abbrev pub passes : {A : Type 0} → (A → Bool) → Option A → Bool
-passes test None = false
-passes test (Some x) = test x
 
 -- root, and each object whose parent is a directory that the subject holds by read or by write
 abbrev pub is_named : State → ℕ → Path → Bool

@@ -1,5 +1,5 @@
 -- The state that an image stands for.
-use Rattle.std.specs.Prelude.{ℕ, ◌-◌, ◌*◌, ◌==◌, Bool, true, false, List, [], ◌∷◌, ◌++◌, length, map, filter, flat_map, replicate, find as first, Option, Some, None, option_map, unwrap_or}
+use Rattle.std.specs.Prelude.{ℕ, ◌-◌, ◌*◌, ◌==◌, Bool, false, List, [], ◌∷◌, ◌++◌, length, map, filter, flat_map, replicate, find as first, Option, option_map, unwrap_or}
 use Rattle.std.specs.List.{range_with_len}
 use Rattle.std.specs.FinMap as finmap
 use Rattle.std.specs.FinSet as set
@@ -13,9 +13,10 @@ use Rattle.bk_state.specs.declared.image.Hold.{Hold}
 use Rattle.bk_state.specs.declared.image.ObjectRec.{ObjectRec}
 use Rattle.bk_state.specs.declared.image.SubjectRec.{SubjectRec}
 use Rattle.bk_state.specs.declared.image.WindowRec.{WindowRec}
+use Rattle.bk_state.specs.declared.process.Clearance.{Clearance}
 use Rattle.bk_state.specs.declared.process.Process.{Process}
 use Rattle.bk_state.specs.declared.process.Status9.TheVariants.{Running}
-use Rattle.bk_state.specs.State.{State, Object, Contents, Children, Words, Messages, Typed, Clearance, Triple}
+use Rattle.bk_state.specs.State.{State, Object, Contents, Children, Words, Messages, Typed, Triple}
 
 -- the given words, and zeros up to 32 words a block
 abbrev pub padded : ℕ → List ℕ → List ℕ
@@ -35,14 +36,21 @@ object_from o = record { facts = o.facts; contents = contents_from o.facts.kind 
 abbrev pub shown_in : List WindowRec → ℕ → Option Path
 shown_in windows n = option_map (λ w. w.path) (first (λ w. w.index == n) windows)
 
+-- the paths that the 32 windows show, by their numbers
+unfoldable pub windows_from : List WindowRec → List (Option Path)
+windows_from windows = map (shown_in windows) (range_with_len 0 32)
+
 -- a process at the start: the given registers, no trace bit and no condition codes, and it runs
 abbrev pub process_from : SubjectRec → Process
 process_from s = record {
   registers = record {
-    general = s.regs; user = s.user_sp; supervisor = s.super_sp; pc = s.pc;
+    general = s.regs;
+    user = s.user_sp;
+    supervisor = s.super_sp;
+    pc = s.pc;
     status = record { mode = s.mode; previous = s.previous; trace = false; flags = record { n = false; z = false; v = false; c = false } };
   };
-  windows = map (shown_in s.windows) (range_with_len 0 32);
+  windows = windows_from s.windows;
   entries = s.entries;
   status = Running;
 }

@@ -8,6 +8,7 @@ use Rattle.bk_level.specs.Levels.{Level, level_at}
 use Rattle.bk_path.specs.Paths.{Path, path_cmp}
 use Rattle.bk_object.specs.Modes.{Mode, mode_number}
 use Rattle.bk_object.specs.declared.facts.Facts.{Facts}
+use Rattle.bk_state.specs.declared.process.Clearance.{Clearance}
 use Rattle.bk_state.specs.declared.process.Process.{Process}
 
 -- What an object holds: a directory nothing of its own, since its children are the paths below it; a segment its
@@ -22,11 +23,6 @@ pub data Contents : Type 0 where
 pub record Object : Type 0 where
   pub facts : Facts
   pub contents : Contents
-
--- the numbers of a subject's greatest and current level
-pub record Clearance : Type 0 where
-  pub greatest : ℕ
-  pub current : ℕ
 
 -- what no event changes: the levels, each subject's, the number of each line's level, the turns of a slot, the schedule
 pub record Fixed : Type 0 where

@@ -1,18 +1,20 @@
 //! The state of the system, as definitions, and the image that it starts from.
 //!
 //! Model: `specs/State.antt` (the state: objects, current access set, processes), `specs/Named.antt` (who may name
-//! what), `specs/Start.antt` (the state that an image stands for), `specs/FirstImage.antt` (first images).
+//! what), `specs/Quota.antt` (governing cells and used numbers), `specs/Secure.antt` (the secure state),
+//! `specs/Checks.antt` and `specs/Changes.antt` (the nine rules: their checks in order, and what each changes),
+//! `specs/Start.antt` (the state that an image stands for), `specs/FirstImage.antt` (first images).
 //! Calls: none.
 //! Proved: nothing here; the crates above prove their calls against these definitions.
-//! Stands on: `bk_base`, `bk_level`, `bk_object`, `bk_path`, `bk_space`.
+//! Stands on: `bk_base`, `bk_level`, `bk_object`, `bk_path`, `bk_quota`, `bk_space`.
 #![tactic(auto)]
 
 mod first;
 mod image;
 mod process;
+mod rule;
 
 pub use first::{FIRST_BACK, FIRST_FRONT};
-pub use image::{
-    Hold, Holds, Image, ObjectRec, Objects, SubjectRec, Subjects, WindowRec, Windows,
-};
-pub use process::{Process, ProcessorStatus, Registers, Status9};
+pub use image::{Hold, Holds, Image, ObjectRec, Objects, SubjectRec, Subjects, WindowRec, Windows};
+pub use process::{Clearance, Process, ProcessorStatus, Registers, Status9};
+pub use rule::Rule;

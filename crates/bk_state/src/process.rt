@@ -11,6 +11,13 @@ pub struct ProcessorStatus {
     pub flags: Flags,
 }
 
+/// The numbers of a subject's greatest and current level.
+#[derive(Clone, Copy, PartialEq, Eq, Debug)]
+pub struct Clearance {
+    pub greatest: u8,
+    pub current: u8,
+}
+
 /// The registers of a process: R0 to R5, the user and the supervisor stack pointer, the program counter and the
 /// processor status.
 #[derive(Clone, Copy, PartialEq, Eq, Debug)]

@@ -214,17 +214,26 @@ abbrev pub byte_out : (slot turn byte : ℕ) → Option Object → List ReportIt
 byte_out slot turn byte None = []
 byte_out slot turn byte (Some o) = Byte slot turn (line_of o.facts.kind) byte ∷ []
 
--- the oldest byte goes to R2
-abbrev pub byte_in : State → ℕ → Process → Path → Option Object → State
-byte_in v s p path None = v
-byte_in v s p path (Some o) =
-    with_process (record v { objects = map.insert v.objects path (record { facts = o.facts; contents = without_byte o.contents }) }) s
-    (with_general (λ general. slice_set (answered 0 0 general) 2 (byte_of o.contents)) p)
+-- the oldest typed byte of an object
+abbrev pub byte_at : Option Object → ℕ
+byte_at None = 0
+byte_at (Some o) = byte_of o.contents
+
+-- the object at the path loses its oldest typed byte
+abbrev pub without_byte_at : State → Path → Option Object → State
+without_byte_at v path None = v
+without_byte_at v path (Some o) = record v { objects = map.insert v.objects path (record { facts = o.facts; contents = without_byte o.contents }) }
+
+-- the oldest byte of the line goes to R2
+abbrev pub byte_in : State → ℕ → Process → Path → State
+byte_in v s p path =
+    with_process (without_byte_at v path (find v path)) s
+    (with_general (λ general. slice_set (answered 0 0 general) 2 (byte_at (find v path))) p)
 
 -- the state after a call that is answered yes: line in, pause, stop, line out
 abbrev pub done : State → ℕ → Process → (number : ℕ) → State
 done v s p number =
-    if number == 0o20 then byte_in v s p (path_in p.registers.general) (find v (path_in p.registers.general)) else (
+    if number == 0o20 then byte_in v s p (path_in p.registers.general) else (
     if number == 0o24 then with_process v s (with_status Paused (with_general (answered 0 0) p)) else (
     if number == 0o26 then with_process v s (with_status (Stopped 8) (with_general (answered 0 0) p)) else
     with_process v s (with_general (answered 0 0) p)))

@@ -1,4 +1,4 @@
-use Rattle.std.proofs.Common.{◌≡◌, ◌≢◌, ℕ, ◌+◌, ◌*◌, ◌/◌, ◌%◌, IfSome, sym, ◌∙◌, ap, subst, arith, bit_and}
+use Rattle.std.proofs.Common.{◌≡◌, ℕ, ◌+◌, ◌*◌, ◌/◌, ◌%◌, IfSome, sym, ◌∙◌, ap, subst, arith, bit_and}
 use Rattle.std.proofs.lemmas.Grind.{common_steps}
 use Rattle.bk_isa.specs.Codes.{code_of, IsListed}
 use Rattle.bk_isa.specs.Decode.{parts_of, decode_of}

@@ -1,6 +1,6 @@
 use Rattle.std.proofs.Common.{◌≡◌, drop}
 use Rattle.std.specs.Prelude.{find}
-use Rattle.bk_isa.specs.Names.{is_named}
+use Rattle.bk_isa.specs.Rows.{is_named}
 use Rattle.bk_isa.proofs.table.row_named.Given as goal
 
 -- the rows that are left have the name where all have it

@@ -1,0 +1,6 @@
+pub mod Control
+pub mod Exec
+pub mod Extended
+pub mod Given
+pub mod Operands
+pub mod Previous

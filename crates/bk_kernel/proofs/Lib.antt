@@ -1,0 +1,5 @@
+pub mod Objects
+pub mod Held
+pub mod InPlace
+pub mod Lines
+pub mod Turns

@@ -1,0 +1,80 @@
+-- The turns of a slot one after another.
+use Rattle.std.proofs.Common.{◌≡◌, ℕ, zero, suc, ◌+◌, ◌-◌, ◌^◌, ◌≤◌, ◌<◌, min, max, List, [], ◌∷◌, ◌++◌, length, refl, sym, ◌∙◌, ap, arith, append_assoc, append-nil, cond}
+use Rattle.std.proofs.lemmas.List.Sums.{sum_by-append}
+use Rattle.bk_report.specs.declared.item.ReportItem.{ReportItem}
+use Rattle.bk_state.specs.State.{State}
+use Rattle.bk_system.specs.Step.{Step, nothing, joined}
+use Rattle.bk_system.specs.First.{turn_of}
+use Rattle.bk_system.specs.Slot.{turns_of}
+use Rattle.bk_system.specs.Report.{is_call, calls_in}
+use Rattle.bk_kernel.specs.Progress.{Progress, raised, with_turns, next_turn, after_turn}
+
+abbrev pub Extends : List ReportItem → List ReportItem → Type 0
+Extends xs ys = (zs : List ReportItem) × (ys ≡ xs ++ zs)
+
+-- the items of the first m turns are the first of those of n turns
+turns_past : (slot s : ℕ) (v : State) (m n d : ℕ) → n ≡ d + m → Extends (turns_of slot s v m).items (turns_of slot s v n).items
+turns_past slot s v m n zero e =
+    let same : n ≡ m = omega (arith, e) in
+    ([], ap (λ k. (turns_of slot s v k).items) same ∙ sym (append-nil (turns_of slot s v m).items))
+turns_past slot s v m n (suc d) e =
+    let next : n ≡ suc (d + m) = omega (arith, e) in
+    let rest = turns_past slot s v m (d + m) d refl in
+    let last = (turn_of slot (d + m) (turns_of slot s v (d + m)).state s).items in
+    (rest.0 ++ last, ap (λ k. (turns_of slot s v k).items) next ∙ ap (λ l. l ++ last) rest.1 ∙ append_assoc (turns_of slot s v m).items rest.0 last)
+
+-- one turn more
+pub turns_next : (slot s : ℕ) (v : State) (n : ℕ) → turns_of slot s v (n + 1) ≡ joined (turns_of slot s v n) (turn_of slot n (turns_of slot s v n).state s)
+turns_next slot s v n = let e : n + 1 ≡ suc n = omega arith in ap (turns_of slot s v) e
+
+-- the items of one more turn are a front of those of the slot
+pub turn_front : (slot s : ℕ) (v : State) (t n : ℕ) → t < n → Extends ((turns_of slot s v t).items ++ (turn_of slot t (turns_of slot s v t).state s).items) (turns_of slot s v n).items
+turn_front slot s v t n h = let e : n ≡ (n - suc t) + suc t = omega (arith, h) in turns_past slot s v (suc t) n (n - suc t) e
+
+-- ---- counts
+
+raised_twice : (n a b m : ℕ) → max (max n (min (n + a) m)) (min (max n (min (n + a) m) + b) m) ≡ max n (min (n + (a + b)) m)
+raised_twice n a b m = omega arith
+
+raised_none : (n m : ℕ) → max n (min (n + 0) m) ≡ n
+raised_none n m = omega arith
+
+raised_small : (t m : ℕ) → t ≤ m → max 0 (min (0 + t) m) ≡ t
+raised_small t m h = omega arith
+
+calls_more : (xs ys : List ReportItem) → calls_in (xs ++ ys) ≡ calls_in xs + calls_in ys
+calls_more xs ys = sum_by-append (λ (x : ReportItem). cond (is_call x) 1 0) xs ys
+
+-- no turn yet
+pub with_turns-none : (p : Progress) → with_turns p (nothing p.state) 0 ≡ p
+with_turns-none p = λ i. record {
+  state = p.state; slots = p.slots;
+  since = raised_none p.since (2 ^ 16 - 1) i;
+  turns = raised_none p.turns (2 ^ 32 - 1) i;
+  references = raised_none p.references (2 ^ 64 - 1) i;
+  calls = raised_none p.calls (2 ^ 32 - 1) i;
+}
+
+-- one turn more
+pub with_turns-next : (p : Progress) (a : Step) (s t : ℕ) → p.since ≡ 0 → t < 2 ^ 16 → after_turn (with_turns p a t) s ≡ with_turns p (joined a (turn_of p.slots t a.state s)) (t + 1)
+unfolding after_turn
+with_turns-next p a s t fresh few =
+    ap (λ n. with_turns (with_turns p a t) (turn_of p.slots n a.state s) 1) number
+    ∙ (λ i. record {
+      state = b.state; slots = p.slots;
+      since = raised_twice p.since t 1 (2 ^ 16 - 1) i;
+      turns = raised_twice p.turns t 1 (2 ^ 32 - 1) i;
+      references = raised_twice p.references a.references b.references (2 ^ 64 - 1) i;
+      calls = (raised_twice p.calls (calls_in a.items) (calls_in b.items) (2 ^ 32 - 1) ∙ ap (raised 32 p.calls) (sym (calls_more a.items b.items))) i;
+    })
+  where
+    b : Step
+    b = turn_of p.slots t a.state s
+
+    number : raised 16 p.since t ≡ t
+    number = ap (λ n. raised 16 n t) fresh ∙ raised_small t (2 ^ 16 - 1) (omega arith)
+
+-- the number of the turn that comes next
+pub turn_number : (p : Progress) (a : Step) (s t : ℕ) → p.since ≡ 0 → t < 2 ^ 16 → (next_turn (with_turns p a t) s).items ≡ (turn_of p.slots t a.state s).items
+turn_number p a s t fresh few =
+    ap (λ n. (turn_of p.slots n a.state s).items) (ap (λ n. raised 16 n t) fresh ∙ raised_small t (2 ^ 16 - 1) (omega arith))

@@ -1,0 +1,6 @@
+pub mod Contents
+pub mod Entries
+pub mod Access
+pub mod Tables
+pub mod Items
+pub mod Progress

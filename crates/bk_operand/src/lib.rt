@@ -1,0 +1,15 @@
+//! The eight addressing modes: where an operand is, what its value is, and how a result is stored.
+//!
+//! Model: `specs/Part.antt` (`Part`, `reading`, `writing`), `specs/Operand.antt` (`located`, `fetched`,
+//! `stored`).
+//! Calls: `next_word`, `locate`, `fetch`, `store`.
+//! Proved: over any bus, the place, the value, the registers and the references are those of the
+//! definitions, an abort is the bus's own, and the notes tell all that `locate` moved.
+//! Stands on: `bk_space`.
+#![tactic(auto)]
+
+mod operand;
+mod place;
+
+pub use operand::{fetch, locate, next_word, store};
+pub use place::Place;

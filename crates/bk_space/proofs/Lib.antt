@@ -1,0 +1,3 @@
+pub mod UndoneLemmas
+pub mod ReferenceLemmas
+pub mod CountLemmas

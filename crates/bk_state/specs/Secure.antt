@@ -1,0 +1,80 @@
+-- When a state is secure.
+use Rattle.std.specs.Prelude.{◌≡◌, ℕ, ◌*◌, ◌%◌, ◌^◌, ◌<◌, ◌≤◌, Bool, true, ◌&&◌, [], ◌∷◌, length, Some, slice_index, ◌==◌, ◌⊎◌}
+use Rattle.std.specs.List.{list_all}
+use Rattle.bk_level.specs.Levels.{Level, dominates, is_same_level}
+use Rattle.bk_path.specs.Paths.{Path}
+use Rattle.bk_object.specs.Modes.{Mode, Read, Execute, Write, Append, has}
+use Rattle.bk_object.specs.Kinds.{kind_modes, is_directory}
+use Rattle.bk_object.specs.Rows.{in_row}
+use Rattle.bk_object.specs.declared.Kind.{Kind}
+use Rattle.bk_object.specs.declared.Kind.TheVariants.{Directory, Segment, Mailbox, Line}
+use Rattle.bk_object.specs.declared.Facts.{Facts}
+use Rattle.bk_quota.specs.Charges.{passes}
+use Rattle.bk_state.specs.State.{State, Fixed, Object, Contents, Children, Words, Messages, Typed, find, facts_at, holds, current_level, greatest_level, level_of}
+use Rattle.bk_state.specs.Quota.{used, is_upgraded, quota_at}
+
+abbrev pub IsDirectoryAt : State → Path → Type 0
+IsDirectoryAt v path = passes (λ facts. is_directory facts.kind) (facts_at v path) ≡ true
+
+-- The blocks and the contents that each kind has: a segment 1 to 128 blocks of 32 words; a mailbox at most 16 messages of
+-- four words and a count of lost ones; a line at most 64 bytes, and the level that the image gives to its number.
+abbrev pub FitsKind : Fixed → Kind → Facts → Contents → Type 0
+FitsKind fixed Directory facts contents = (facts.blocks ≡ 0) × (contents ≡ Children)
+FitsKind fixed Segment facts (Words words) = (1 ≤ facts.blocks) × (facts.blocks ≤ 128) × (length words ≡ 32 * facts.blocks)
+FitsKind fixed Segment facts Children = ⊥
+FitsKind fixed Segment facts (Messages waiting lost) = ⊥
+FitsKind fixed Segment facts (Typed bytes) = ⊥
+FitsKind fixed Mailbox facts (Messages waiting lost) = (facts.blocks ≡ 0) × (length waiting ≤ 16) × (list_all (λ message. length message == 4) waiting ≡ true) × (lost < 2 ^ 16)
+FitsKind fixed Mailbox facts Children = ⊥
+FitsKind fixed Mailbox facts (Words words) = ⊥
+FitsKind fixed Mailbox facts (Typed bytes) = ⊥
+FitsKind fixed (Line n) facts (Typed bytes) = (facts.blocks ≡ 0) × (length bytes ≤ 64) × (n < length fixed.lines) × (facts.level ≡ slice_index fixed.lines n)
+FitsKind fixed (Line n) facts Children = ⊥
+FitsKind fixed (Line n) facts (Words words) = ⊥
+FitsKind fixed (Line n) facts (Messages waiting lost) = ⊥
+
+-- the object's path is one of a directory with a cell: root, or an upgraded directory
+abbrev pub HasCell : State → Path → Type 0
+HasCell v path = (path ≡ []) ⊎ (is_upgraded v path ≡ true)
+
+-- The levels at which a subject may hold an object by the mode, from its greatest and its current level and the object's.
+-- For r, e and w the greatest level dominates the object's (the simple security condition). For r and e the current level
+-- dominates the object's, for w it is the object's, and for a the object's dominates it (the *-property).
+abbrev pub allows : Mode → (greatest current object : Level) → Bool
+allows Read greatest current object = dominates greatest object && dominates current object
+allows Execute greatest current object = dominates greatest object && dominates current object
+allows Write greatest current object = dominates greatest object && is_same_level object current
+allows Append greatest current object = dominates object current
+
+abbrev pub is_allowed : State → ℕ → Facts → Mode → Bool
+is_allowed v s facts mode = allows mode (greatest_level v s) (current_level v s) (level_of v facts)
+
+pub record Secure (v : State) : Type 0 where
+  -- there are as many processes as subjects
+  pub processes : length v.processes ≡ length v.fixed.subjects
+  -- root is there and is a directory; the parent of every other object is a directory whose level the object's dominates
+  pub root : IsDirectoryAt v []
+  pub parents : (entry : ℕ) (path : Path) (facts : Facts) → facts_at v (entry ∷ path) ≡ Some facts →
+      passes (λ above. is_directory above.kind && dominates (level_of v facts) (level_of v above)) (facts_at v path) ≡ true
+  -- each subject's greatest level dominates its current one; every object's level is in the list
+  pub clearances : (s : ℕ) → s < length v.fixed.subjects → dominates (greatest_level v s) (current_level v s) ≡ true
+  pub levels : (path : Path) (facts : Facts) → facts_at v path ≡ Some facts → facts.level < length v.fixed.levels
+  -- blocks and contents are those of the kind, and no two objects have the same line number
+  pub kinds : (path : Path) (object : Object) → find v path ≡ Some object → FitsKind v.fixed object.facts.kind object.facts object.contents
+  pub lines : (p q : Path) (facts other : Facts) (n : ℕ) → facts_at v p ≡ Some facts → facts_at v q ≡ Some other →
+      facts.kind ≡ Line n → other.kind ≡ Line n → p ≡ q
+  -- root and each upgraded directory have a quota of 1 to 3,904, of which no more is used than there is; all else has 0
+  pub limits : (path : Path) → HasCell v path → (1 ≤ quota_at v path) × (quota_at v path ≤ 3904)
+  pub no_limits : (path : Path) → ¬ HasCell v path → quota_at v path ≡ 0
+  pub quotas : (path : Path) → HasCell v path → used v path ≤ quota_at v path
+  -- rows hold modes of the kind, and only for subjects that are there
+  pub rows : (path : Path) (facts : Facts) (s : ℕ) (mode : Mode) → facts_at v path ≡ Some facts → has (in_row facts.row s) mode ≡ true →
+      (has (kind_modes facts.kind) mode ≡ true) × (s < length v.fixed.subjects)
+  -- what a subject holds is there, the mode is in its row, and the levels allow it
+  pub access : (s : ℕ) (path : Path) (mode : Mode) → holds v s path mode ≡ true →
+      passes (λ facts. has (in_row facts.row s) mode && is_allowed v s facts mode) (facts_at v path) ≡ true
+  -- the current level of who holds an object dominates the level of its parent
+  pub naming : (s entry : ℕ) (path : Path) (mode : Mode) → holds v s (entry ∷ path) mode ≡ true →
+      passes (λ above. dominates (current_level v s) (level_of v above)) (facts_at v path) ≡ true
+  -- fault entries are even; mode, register set and priority of a process are right by its type
+  pub entries : list_all (λ process. list_all (λ entry. entry % 2 == 0) process.entries) v.processes ≡ true
