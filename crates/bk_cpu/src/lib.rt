@@ -17,6 +17,8 @@ mod previous;
 mod singles;
 mod stack;
 mod stepping;
+#[cfg(test)]
+mod tests;
 
 pub use bk_exec::Event;
 pub use plain::PlainBus;
