@@ -1,5 +1,6 @@
 -- First images: the sample's image with any 14 words of program, the last of which isn't 0.
-use Rattle.std.specs.Prelude.{◌≡◌, ℕ, ◌+◌, ◌*◌, Bool, not, ◌&&◌, List, [], ◌∷◌, length, take, drop, replicate, slice_index, bytes_eq, Option, Some, None, ◌==◌, nat_le, if◌then◌else◌}
+use Rattle.std.specs.Prelude.{◌≡◌, ℕ, ◌+◌, ◌*◌, Bool, not, ◌&&◌, List, [], ◌∷◌, length, take, drop, replicate, slice_index, Option, Some, None, ◌==◌, nat_eq, if◌then◌else◌}
+use Rattle.std.specs.List.{starts_with}
 use Rattle.bk_level.specs.Levels.{Level}
 use Rattle.bk_path.specs.Paths.{Path}
 use Rattle.bk_object.specs.declared.kind.Kind.{Kind}
@@ -87,14 +88,18 @@ words_of (low ∷ high ∷ bytes) = (low + 256 * high) ∷ words_of bytes
 
 -- the 14 words at bytes 170 to 197
 abbrev pub words_in : List ℕ → List ℕ
-words_in bytes = words_of (take 28 (drop 170 bytes))
+words_in bytes = words_of (drop 170 (take 198 bytes))
 
--- the first 290 bytes are those of a first image
+-- the bytes are the 290 of a first image
 abbrev pub is_first : List ℕ → Bool
 is_first bytes =
-    nat_le 290 (length bytes) && bytes_eq (take 170 bytes) FIRST_FRONT && bytes_eq (take 92 (drop 198 bytes)) FIRST_BACK
+    length bytes == 290 && starts_with nat_eq bytes FIRST_FRONT && starts_with nat_eq (drop 198 bytes) FIRST_BACK
     && not (slice_index bytes 196 == 0 && slice_index bytes 197 == 0)
 
--- the first image in front of the bytes, where there is one; it has 290 bytes
-unfoldable pub first_image_of : List ℕ → Option Image
-first_image_of bytes = if is_first bytes then Some (first_image (words_in bytes)) else None
+-- the first image that 290 bytes spell
+unfoldable pub spelt_image : List ℕ → Option Image
+spelt_image bytes = if is_first bytes then Some (first_image (words_in bytes)) else None
+
+-- the first image in front of the bytes, where there is one
+abbrev pub first_image_of : List ℕ → Option Image
+first_image_of bytes = spelt_image (take 290 bytes)

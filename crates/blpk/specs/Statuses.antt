@@ -1,0 +1,13 @@
+-- The number of each status.
+use Rattle.std.specs.Prelude.{ℕ}
+use Rattle.blpk.specs.declared.status.Status.{Status}
+use Rattle.blpk.specs.declared.status.Status.TheVariants.{Ok, Usage, ImageRefused, ScriptRefused, ReadFault, WriteFault, NoMemory}
+
+abbrev pub number_of : Status → ℕ
+number_of Ok = 0
+number_of Usage = 2
+number_of ImageRefused = 3
+number_of ScriptRefused = 4
+number_of ReadFault = 6
+number_of WriteFault = 7
+number_of NoMemory = 8

@@ -1,0 +1,50 @@
+ghost use Rattle.std.specs.Prelude.{◌≡◌};
+ghost use Rattle.blpk.specs.Statuses.{number_of};
+
+/// How the command ended.
+#[derive(Clone, Copy, PartialEq, Eq, Debug)]
+pub enum Status {
+    /// All output is written, and all input was read to its end.
+    Ok,
+    /// The words are none of the command's.
+    Usage,
+    /// No image is a prefix of the input.
+    ImageRefused,
+    /// The bytes after the image are no script for it.
+    ScriptRefused,
+    /// The input's count of faults rose.
+    ReadFault,
+    /// The count of faults of the output, or of the error output, rose.
+    WriteFault,
+    /// The runtime had no more memory.
+    NoMemory,
+}
+
+impl Status {
+    /// The number that the program ends with.
+    pub fn number(self) -> u8
+        ensures { result ≡ number_of self }
+    {
+        match self {
+            Status::Ok => 0,
+            Status::Usage => 2,
+            Status::ImageRefused => 3,
+            Status::ScriptRefused => 4,
+            Status::ReadFault => 6,
+            Status::WriteFault => 7,
+            Status::NoMemory => 8,
+        }
+    }
+}
+
+/// What the command came to, before a line is written on the error output.
+#[derive(Clone, Copy, PartialEq, Eq, Debug)]
+pub enum Outcome {
+    Written,
+    Usage,
+    Read,
+    Image,
+    Script,
+    Write,
+    NoMemory,
+}
