@@ -8,6 +8,8 @@
 
 mod cell;
 mod charges;
+mod example;
 
 pub use cell::Cell;
 pub use charges::charge_of;
+pub use example::law_example;
