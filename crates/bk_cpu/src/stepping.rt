@@ -7,9 +7,10 @@ ghost use Rattle.bk_exec.specs.Exec.{executed, running, event_of, exec};
 ghost use Rattle.bk_cpu.specs.Reached.{Reaches, left_by};
 
 use crate::control::{branch, call, codes, jump, mark, resume, return_by};
-use crate::extended::{extended, subtract_one_and_branch};
-use crate::operands::{double, exclusive_or, single};
+use crate::doubles::double;
+use crate::extending::{extended, subtract_one_and_branch};
 use crate::previous::{move_from, move_to};
+use crate::singles::{exclusive_or, single};
 use bk_exec::{Ending, Event};
 use bk_isa::{Instr, decode};
 use bk_operand::next_word;

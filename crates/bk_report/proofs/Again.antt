@@ -116,12 +116,15 @@ call_again slot turn subject number regs answer cause rest a b c d six words e f
     let subject_small : subject % 2 ^ 8 ≡ subject = omega (arith, c) in
     let number_small : number % 2 ^ 8 ≡ number = omega (arith, d) in
     let cause_small : cause % 2 ^ 8 ≡ cause = omega (arith, f) in
+    let fields : call_of (decimal slot ++ (32 ∷ (decimal turn ++ (32 ∷ (decimal subject ++ (32 ∷ (octal3 number ++ after_number)))))))
+    ≡ call_with slot turn subject number (words_in 6 (drop 1 after_number)) =
     rw (
       front_field slot (omega (arith, a)) (decimal turn ++ (32 ∷ (decimal subject ++ (32 ∷ (octal3 number ++ after_number))))),
       front_field turn (omega (arith, b)) (decimal subject ++ (32 ∷ (octal3 number ++ after_number))),
       front_field subject (omega (arith, c)) (octal3 number ++ after_number),
       number_is,
-    ) refl
+    ) refl in
+    fields
     ∙ ap (call_with slot turn subject number) words_are
     ∙ rw (
       answer_again answer (decimal cause ++ (10 ∷ rest)) e,

@@ -1,4 +1,5 @@
 pub mod Again
 pub mod Found
 pub mod Naming
+pub mod Plain
 pub mod Splitting

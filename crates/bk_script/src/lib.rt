@@ -3,8 +3,9 @@
 //! Model: `specs/Fields.antt` and `specs/Lines.antt` (`script_of`: the records, or the first fault), `specs/Script.antt`
 //! (`text_of`, `IsScript`).
 //! Calls: `read_script`; `ScriptKind::text`.
-//! Proved: a script is read exactly as its bytes spell it, and refused exactly with its first fault.
-//! Stands on: `bk_base`, `bk_state`, `bk_system`.
+//! Proved: a script is read exactly as its bytes spell it, and refused exactly with its first fault; what is read holds of
+//! a script, and a script's text is read again.
+//! Stands on: `bk_base`, `bk_report`, `bk_state`, `bk_system`.
 #![tactic(auto)]
 
 mod fault;

@@ -1,21 +1,28 @@
 //! Compares cases of the processor, computed outside, with the project's own calls.
 //!
 //! Model: `specs/Agrees.antt` (`Agrees`), over the definitions of `bk_isa`.
-//! Calls: `main`: lines on standard input; the lines that differ, up to twenty, and the totals on standard output.
+//! Calls: `main`: cases on standard input; those that differ, up to twenty, and the totals on standard output.
 //! Proved: a case that was read counts as one that agrees exactly where the definitions give its answer. Reading is tested.
-//! Stands on: `bk_space`, `bk_isa`, `bk_word`.
+//! Stands on: `bk_isa`, `bk_word`, `bk_cpu`.
 #![tactic(auto)]
 
 mod case;
 mod read;
+mod step_case;
+mod stepped;
 mod tally;
+mod unread;
 mod word;
 
 use case::agrees;
 use read::read_case;
+use std::alloc::{AllocError, Global};
 use std::io::{self, Read};
 use std::process::ExitCode;
+use step_case::read_step;
+use stepped::step_agrees;
 use tally::Tally;
+use unread::Unread;
 
 /// How many lines that differ are named.
 const NAMED: u64 = 20;
@@ -31,9 +38,27 @@ fn line_agrees(line: &[u8]) -> bool {
     }
 }
 
-fn name_line<R: Print>(rt: &R, number: usize, line: &[u8]) -> io::Result<()> {
+/// Whether a block of lines spells a case of one instruction, and a step on a plain bus gives its answer.
+fn block_agrees(alloc: Global, block: &[u8]) -> Result<bool, AllocError> {
+    let Ok(text) = str::from_utf8(block) else {
+        return Ok(false);
+    };
+    let agrees = match read_step(alloc, text) {
+        Ok(case) => step_agrees(alloc, &case),
+        Err(stop) => Err(stop),
+    };
+    match agrees {
+        Ok(agrees) => Ok(agrees),
+        Err(Unread::Form) => Ok(false),
+        Err(Unread::NoMemory) => Err(AllocError),
+    }
+}
+
+/// Names a line that differs, or the first line of a block.
+fn name_line<R: Print>(rt: &R, number: usize, text: &[u8]) -> io::Result<()> {
+    let line = text.split(|byte| *byte == b'\n').next().unwrap_or(text);
     match str::from_utf8(line) {
-        Ok(text) => println!(rt; "line {number} differs: {text}"),
+        Ok(line) => println!(rt; "line {number} differs: {line}"),
         Err(_) => println!(rt; "line {number} differs"),
     }
 }
@@ -46,15 +71,39 @@ fn without_end(text: &[u8]) -> &[u8] {
     }
 }
 
-/// Counts the lines, and names those that differ, up to twenty.
-fn compare<R: Print>(rt: &R, lines: &[u8]) -> io::Result<Tally> {
+/// Counts a case, and names it where it differs, up to twenty.
+fn count<R: Print>(rt: &R, tally: &mut Tally, agrees: bool, number: usize, text: &[u8]) -> io::Result<()> {
+    tally.count(agrees);
+    if !agrees && tally.differ <= NAMED {
+        name_line(rt, number, text)?;
+    }
+    Ok(())
+}
+
+/// Counts the cases: each line is one, and from a line `case` on the lines up to an empty one are one.
+fn compare<R: Print>(rt: &R, alloc: Global, text: &[u8]) -> io::Result<Tally> {
     let mut tally = Tally::new();
-    for (at, line) in lines.split(|byte| *byte == b'\n').enumerate() {
-        let agrees = line_agrees(line);
-        tally.count(agrees);
-        if !agrees && tally.differ <= NAMED {
-            name_line(rt, at + 1, line)?;
+    let mut block = Vec::new(alloc);
+    let mut first = 0;
+    for (at, line) in text.split(|byte| *byte == b'\n').enumerate() {
+        if line.starts_with(b"case ") {
+            first = at + 1;
         }
+        if first == 0 {
+            count(rt, &mut tally, line_agrees(line), at + 1, line)?;
+        } else if line.is_empty() {
+            let agrees = block_agrees(alloc, block.as_slice())?;
+            count(rt, &mut tally, agrees, first, block.as_slice())?;
+            block.clear();
+            first = 0;
+        } else {
+            block.extend_from_slice(line)?;
+            block.push(b'\n')?;
+        }
+    }
+    if first != 0 {
+        let agrees = block_agrees(alloc, block.as_slice())?;
+        count(rt, &mut tally, agrees, first, block.as_slice())?;
     }
     Ok(tally)
 }
@@ -65,7 +114,7 @@ fn main(rt: HostRuntime) -> io::Result<ExitCode> {
     let tally = if bytes.is_empty() {
         Tally::new()
     } else {
-        compare(&rt, without_end(&bytes))?
+        compare(&rt, rt.alloc(), without_end(&bytes))?
     };
     println!(rt; "{} agree, {} differ", tally.agree, tally.differ)?;
     Ok(if tally.is_clean() {

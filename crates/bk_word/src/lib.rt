@@ -11,6 +11,8 @@ mod exact;
 mod mul_div;
 mod shift;
 mod single;
+#[cfg(test)]
+mod tests;
 
 pub use double::binary;
 pub use mul_div::{div, mul};

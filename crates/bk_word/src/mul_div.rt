@@ -82,8 +82,8 @@ fn divide(x: i64, y: i64) -> (Option<(u16, u16)>, Flags)
         };
         return (None, flags);
     }
-    let quotient = x / y;
     let rest = x % y;
+    let quotient = x / y;
     if quotient < -0x8000 || quotient > 0x7fff {
         let flags = Flags {
             n: false,

@@ -71,11 +71,12 @@ fn word_right(word: u16, m: u32) -> (u16, Flags)
 {
     let value = i64::from(value_of(word));
     let moved = word_of(floor_of(value, m + 1));
+    let last = is_odd(floor_of(value, m));
     let flags = Flags {
         n: moved >= 0x8000,
         z: moved == 0,
         v: false,
-        c: is_odd(floor_of(value, m)),
+        c: last,
     };
     (moved, flags)
 }
@@ -151,11 +152,11 @@ pub fn ashc(high: u16, low: u16, count: u16, _old: Flags) -> (u16, u16, Flags)
 {
     let bits = bits_of(high, low);
     let value = long_value_of(high, low);
-    let six = u32::from(count & 63);
-    let (moved, flags) = if six < 32 {
-        long_left(bits, value, six)
+    let places = u32::from(count & 63);
+    let (moved, flags) = if places < 32 {
+        long_left(bits, value, places)
     } else {
-        long_right(bits, value, 63 - six)
+        long_right(bits, value, 63 - places)
     };
     ((moved >> 16) as u16, (moved & 0xffff) as u16, flags)
 }

@@ -1,0 +1,107 @@
+ghost use Rattle.std.specs.Prelude.{◌≡◌, ◌↔◌, ◌*◌, IsTrue, IfOk, vec_len};
+ghost use Rattle.bk_space.specs.Counts.{counted_on};
+ghost use Rattle.bk_exec.specs.Exec.{exec};
+ghost use Rattle.bk_cpu.specs.Plain.{page_in};
+
+use crate::step_case::{CasePage, Content, StepCase};
+use crate::unread::Unread;
+use bk_cpu::{Event, PlainBus, step};
+use bk_space::{Regs, Width};
+use std::alloc::{AllocError, Global};
+
+/// The words of a page, all 0.
+fn zeros(alloc: Global, blocks: u8) -> Result<Vec<u16>, AllocError>
+    ensures { IfOk result (λ words. vec_len words ≡ 32 * blocks) }
+{
+    let words = vec![in alloc; 0; 32 * blocks as usize]?;
+    Ok(words)
+}
+
+/// Puts a word or a byte into a page's words; false where it is beyond them.
+fn put(words: &mut [u16], content: Content) -> bool {
+    match words.get_mut(content.offset as usize / 2) {
+        Some(word) => {
+            *word = match content.width {
+                Width::Word => content.value,
+                Width::Byte => {
+                    if content.offset % 2 == 0 {
+                        *word & 0o177400 | content.value & 0o377
+                    } else {
+                        *word & 0o377 | (content.value & 0o377) << 8
+                    }
+                }
+            };
+            true
+        }
+        None => false,
+    }
+}
+
+/// The words of a page with what the case puts there.
+fn filled(alloc: Global, page: u8, shape: CasePage, contents: &[Content]) -> Result<Vec<u16>, Unread> {
+    let mut words = zeros(alloc, shape.blocks)?;
+    for content in contents {
+        if content.page == page && !put(words.as_mut_slice(), *content) {
+            return Err(Unread::Form);
+        }
+    }
+    Ok(words)
+}
+
+/// A bus with the pages of the case.
+fn bus_of(alloc: Global, case: &StepCase) -> Result<PlainBus, Unread> {
+    let Ok(mut bus) = PlainBus::new(alloc) else {
+        return Err(Unread::NoMemory);
+    };
+    let mut page = 0u8;
+    for shape in &case.pages {
+        let words = filled(alloc, page, *shape, case.words.as_slice())?;
+        if page > 31 || words.len() % 32 != 0 || words.len() > 4096 {
+            return Err(Unread::Form);
+        }
+        bus.set_page(page, shape.rights, words);
+        page += 1;
+    }
+    if page == 32 { Ok(bus) } else { Err(Unread::Form) }
+}
+
+/// Whether the pages are those of the case after its write.
+fn has_pages(alloc: Global, bus: &PlainBus, case: &StepCase) -> Result<bool, Unread> {
+    for page in 0..32u8 {
+        let Some(shape) = case.pages.get(page as usize) else {
+            return Err(Unread::Form);
+        };
+        let mut words = filled(alloc, page, *shape, case.words.as_slice())?;
+        if let Some(write) = case.write {
+            if write.page == page && !put(words.as_mut_slice(), write) {
+                return Err(Unread::Form);
+            }
+        }
+        if bus.words(page) != words.as_slice() {
+            return Ok(false);
+        }
+    }
+    Ok(true)
+}
+
+/// Whether one instruction gives these registers, this event and this count of references.
+fn gives(bus: &mut PlainBus, before: Regs, after: Regs, event: Event, references: u64) -> bool
+    ensures { IsTrue result ↔ (((exec (page_in bus.old.pages) before).regs ≡ after) × ((exec (page_in bus.old.pages) before).outcome ≡ event) × (counted_on bus.old.references (exec (page_in bus.old.pages) before).references ≡ references)) }
+{
+    let mut regs = before;
+    let outcome = step(&mut regs, bus);
+    regs == after && outcome == event && bus.references() == references
+}
+
+/// Whether the instruction of the case gives its answer, on a plain bus.
+pub fn step_agrees(alloc: Global, case: &StepCase) -> Result<bool, Unread> {
+    let mut bus = bus_of(alloc, case)?;
+    let gives = gives(
+        &mut bus,
+        case.before,
+        case.after,
+        case.event,
+        case.references,
+    );
+    Ok(gives && has_pages(alloc, &bus, case)?)
+}
