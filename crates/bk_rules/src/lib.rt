@@ -3,7 +3,7 @@
 //! Model: `specs/Decisions.antt` (`fails`, `answer`, `facts_of`), over `bk_state`'s `specs/Checks.antt`.
 //! Calls: `decide`.
 //! Proved: `decide` answers by the first check of the rule that fails, or yes; over the facts of a state that is the rule's answer in the state.
-//! Stands on: `bk_level`, `bk_object`, `bk_path`, `bk_quota`, `bk_state`.
+//! Stands on: `bitflags`, `bk_level`, `bk_object`, `bk_path`, `bk_quota`, `bk_state`.
 #![tactic(auto)]
 
 mod answers;

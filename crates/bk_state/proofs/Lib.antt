@@ -1,2 +1,4 @@
 pub mod Orders
 pub mod MapsKept
+pub mod Triples
+pub mod SmallestSecure

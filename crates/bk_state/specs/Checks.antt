@@ -146,3 +146,15 @@ fails v s rule request BadArgument = false
 -- the first check that fails
 unfoldable pub refusal : State → (s : ℕ) → Rule → Request → Option Cause
 refusal v s rule request = first (fails v s rule request) (checks rule)
+
+-- the order in which checks are made: each only where the call lists it
+abbrev pub order : List Cause
+order =
+    NoCall ∷ NoPath ∷ BadArgument ∷ NotNamed ∷ NoObject ∷ WrongKind ∷ IsRoot ∷ NoParentWrite ∷ NotHeld
+    ∷ NotInRow ∷ AboveGreatest ∷ WrongCurrent ∷ LevelFalls ∷ Taken ∷ OverQuota ∷ TooLong ∷ Empty ∷ []
+
+-- the causes stand in the order in which all stand
+abbrev pub is_in_order : (causes all : List Cause) → Bool
+is_in_order [] all = true
+is_in_order (cause ∷ causes) [] = false
+is_in_order (cause ∷ causes) (next ∷ all) = if cause_number cause == cause_number next then is_in_order causes all else is_in_order (cause ∷ causes) all

@@ -5,5 +5,6 @@ pub mod Quota
 pub mod Secure
 pub mod Checks
 pub mod Changes
+pub mod Smallest
 pub mod Start
 pub mod FirstImage
