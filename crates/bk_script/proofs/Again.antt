@@ -1,5 +1,5 @@
 -- A script's text is read again as the script.
-use Rattle.std.proofs.Common.{◌≡◌, ℕ, ◌+◌, ◌*◌, ◌^◌, ◌<◌, ◌≤◌, Bool, true, false, List, [], ◌∷◌, ◌++◌, length, Some, Ok, refl, sym, ap, ◌∙◌, arith, decimal, subst, append_assoc, nat_lt, nat_le}
+use Rattle.std.proofs.Common.{◌≡◌, ℕ, ◌+◌, ◌*◌, ◌^◌, ◌<◌, ◌≤◌, Bool, true, false, List, [], ◌∷◌, ◌++◌, length, Option, Some, Result, Ok, refl, sym, ap, ◌∙◌, arith, decimal, subst, append_assoc, nat_lt, nat_le}
 use Rattle.std.specs.Prelude.{◌==◌}
 use Rattle.std.specs.List.{All, AllByRecursion, list_all, slice_split}
 use Rattle.std.proofs.lemmas.Bool.{and_parts}
@@ -8,15 +8,35 @@ use Rattle.std.proofs.lemmas.List.{append-nil}
 use Rattle.std.proofs.lemmas.List.Elements.{All-nil, All-cons, All-append, recursion_from_All}
 use Rattle.std.proofs.lemmas.List.Splits.{slice_split_at, slice_split_none}
 use Rattle.bk_system.specs.declared.TypedAt.{TypedAt}
+use Rattle.bk_script.specs.declared.fault.ScriptFault.{ScriptFault}
+use Rattle.bk_script.specs.declared.line.Line.{Line}
 use Rattle.bk_script.specs.declared.line.Line.TheVariants.{Record, Ends}
-use Rattle.bk_script.specs.Fault.{first_failing}
+use Rattle.bk_script.specs.Fault.{first_failing, ◌>>=◌}
 use Rattle.bk_script.specs.Fields.{is_digit, is_hex, is_bytes, bytes_of}
-use Rattle.bk_script.specs.Lines.{line_of, last, follows, is_below, record_checks, end_checks, lines_at, script_of}
+use Rattle.bk_script.specs.Lines.{line_at, ended, line_of, last, follows, is_below, record_checks, end_checks, lines_at, script_of}
 use Rattle.bk_script.specs.Script.{text_of, IsTyped, IsScript, hex_of}
 use Rattle.bk_script.proofs.Numbers.{is_number-decimal, number-decimal, is_number-parts}
 use Rattle.bk_script.proofs.Hex.{is_bytes-hex_of, bytes_of-hex_of, is_bytes-parts}
 use Rattle.bk_script.proofs.Order.{last-push, Follow, follow_from_in_order, below-last}
-use Rattle.bk_script.proofs.Parts.{lines_at-cut, script_of-short, line_at-record, line_at-ends}
+use Rattle.bk_script.proofs.Parts.{lines_at-cut, script_of-short}
+
+-- ---- a line by what it says
+
+line_at-record : (lines turns at : ℕ) (before : List TypedAt) (said : Option Line) (rest : List (List ℕ)) (others : List TypedAt → Result (List TypedAt × ℕ) ScriptFault)
+    (slot line : ℕ) (bytes : List ℕ) (passed : Unit {0})
+    → said ≡ Some (Record slot line bytes) → first_failing at (record_checks lines before slot line) ≡ Ok passed
+    → line_at lines turns at before said rest others ≡ others (before ++ record { slot = slot; line = line; bytes = bytes } ∷ [])
+line_at-record lines turns at before said rest others slot line bytes passed is good =
+    ap (λ s. line_at lines turns at before s rest others) is
+    ∙ ap (λ r. r >>= (λ passed. others (before ++ record { slot = slot; line = line; bytes = bytes } ∷ []))) good
+
+line_at-ends : (lines turns at : ℕ) (before : List TypedAt) (said : Option Line) (rest : List (List ℕ)) (others : List TypedAt → Result (List TypedAt × ℕ) ScriptFault)
+    (slots : ℕ) (passed : Unit {0})
+    → said ≡ Some (Ends slots) → first_failing at (end_checks turns before slots) ≡ Ok passed
+    → line_at lines turns at before said rest others ≡ ended (at + 1) before slots rest
+line_at-ends lines turns at before said rest others slots passed is good =
+    ap (λ s. line_at lines turns at before s rest others) is
+    ∙ ap (λ r. r >>= (λ passed. ended (at + 1) before slots rest)) good
 
 -- ---- no separator in a field
 
