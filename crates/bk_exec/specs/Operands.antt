@@ -1,4 +1,4 @@
-use Rattle.std.specs.Prelude.{ℕ, ◌+◌, nat_lt, if◌then◌else◌, Option, None}
+use Rattle.std.specs.Prelude.{ℕ, ◌+◌, nat_lt, if◌then◌else◌, None}
 use Rattle.bk_space.specs.declared.reference.Width.{Width}
 use Rattle.bk_space.specs.declared.reference.Width.TheVariants.{Word, Byte}
 use Rattle.bk_space.specs.declared.field.Field.{Field}
@@ -12,7 +12,7 @@ use Rattle.bk_isa.specs.declared.operation.Un.TheVariants.{Clr, Com, Inc, Dec, N
 use Rattle.bk_isa.specs.Results.{binary_of, unary_of, xor_of}
 use Rattle.bk_operand.specs.declared.place.Place.{Place}
 use Rattle.bk_operand.specs.declared.place.Place.TheVariants.{Reg, Mem}
-use Rattle.bk_operand.specs.Part.{Part, given, ◌>>=◌}
+use Rattle.bk_operand.specs.Part.{Part, ◌>>=◌}
 use Rattle.bk_operand.specs.Operand.{located, fetched, stored}
 use Rattle.bk_exec.specs.Given.{Given, done, with_flags}
 

@@ -1,9 +1,9 @@
-use Rattle.std.specs.Prelude.{◌≡◌, ℕ, ◌+◌, ◌%◌, ◌^◌, Result, Ok, Err, Option, Some, None}
+use Rattle.std.specs.Prelude.{◌≡◌, ℕ, ◌+◌, ◌%◌, ◌^◌, Result, Ok, Err, Option, Some}
 use Rattle.bk_space.specs.declared.reference.Mode.{Mode}
 use Rattle.bk_space.specs.declared.reference.Space.{Space}
-use Rattle.bk_space.specs.declared.reference.Space.TheVariants.{I, D}
+use Rattle.bk_space.specs.declared.reference.Space.TheVariants.{I}
 use Rattle.bk_space.specs.declared.reference.Width.{Width}
-use Rattle.bk_space.specs.declared.reference.Width.TheVariants.{Word, Byte}
+use Rattle.bk_space.specs.declared.reference.Width.TheVariants.{Word}
 use Rattle.bk_space.specs.declared.reference.Abort.{Abort}
 use Rattle.bk_space.specs.declared.cause.Cause.{Cause}
 use Rattle.bk_space.specs.declared.registers.Regs.{Regs}

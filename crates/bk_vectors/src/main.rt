@@ -72,7 +72,13 @@ fn without_end(text: &[u8]) -> &[u8] {
 }
 
 /// Counts a case, and names it where it differs, up to twenty.
-fn count<R: Print>(rt: &R, tally: &mut Tally, agrees: bool, number: usize, text: &[u8]) -> io::Result<()> {
+fn count<R: Print>(
+    rt: &R,
+    tally: &mut Tally,
+    agrees: bool,
+    number: usize,
+    text: &[u8],
+) -> io::Result<()> {
     tally.count(agrees);
     if !agrees && tally.differ <= NAMED {
         name_line(rt, number, text)?;

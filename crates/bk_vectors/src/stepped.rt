@@ -38,7 +38,12 @@ fn put(words: &mut [u16], content: Content) -> bool {
 }
 
 /// The words of a page with what the case puts there.
-fn filled(alloc: Global, page: u8, shape: CasePage, contents: &[Content]) -> Result<Vec<u16>, Unread> {
+fn filled(
+    alloc: Global,
+    page: u8,
+    shape: CasePage,
+    contents: &[Content],
+) -> Result<Vec<u16>, Unread> {
     let mut words = zeros(alloc, shape.blocks)?;
     for content in contents {
         if content.page == page && !put(words.as_mut_slice(), *content) {
@@ -62,7 +67,11 @@ fn bus_of(alloc: Global, case: &StepCase) -> Result<PlainBus, Unread> {
         bus.set_page(page, shape.rights, words);
         page += 1;
     }
-    if page == 32 { Ok(bus) } else { Err(Unread::Form) }
+    if page == 32 {
+        Ok(bus)
+    } else {
+        Err(Unread::Form)
+    }
 }
 
 /// Whether the pages are those of the case after its write.
@@ -84,13 +93,25 @@ fn has_pages(alloc: Global, bus: &PlainBus, case: &StepCase) -> Result<bool, Unr
     Ok(true)
 }
 
+fn same_regs(a: Regs, b: Regs) -> bool
+    ensures { IsTrue result ↔ (a ≡ b) }
+{
+    a == b
+}
+
+fn same_event(a: Event, b: Event) -> bool
+    ensures { IsTrue result ↔ (a ≡ b) }
+{
+    a == b
+}
+
 /// Whether one instruction gives these registers, this event and this count of references.
 fn gives(bus: &mut PlainBus, before: Regs, after: Regs, event: Event, references: u64) -> bool
     ensures { IsTrue result ↔ (((exec (page_in bus.old.pages) before).regs ≡ after) × ((exec (page_in bus.old.pages) before).outcome ≡ event) × (counted_on bus.old.references (exec (page_in bus.old.pages) before).references ≡ references)) }
 {
     let mut regs = before;
     let outcome = step(&mut regs, bus);
-    regs == after && outcome == event && bus.references() == references
+    same_regs(regs, after) && same_event(outcome, event) && bus.references() == references
 }
 
 /// Whether the instruction of the case gives its answer, on a plain bus.
