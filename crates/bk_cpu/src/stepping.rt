@@ -61,12 +61,12 @@ fn execute<B: Bus>(
         }
         Instr::Spl { .. } | Instr::Wait | Instr::Reset => Ok(Ending::Completed),
         Instr::Emt { n } => Ok(Ending::Called(n)),
-        Instr::Trap { .. } => Ok(Ending::Trapped(Cause::Trap)),
+        Instr::Trap { .. } => Ok(Ending::Trapped),
         Instr::Halt => Err(Cause::Reserved),
         Instr::Rti => resume(regs, bus, Ending::Completed),
         Instr::Rtt => resume(regs, bus, Ending::Returned),
-        Instr::Bpt => Ok(Ending::Trapped(Cause::Break)),
-        Instr::Iot => Ok(Ending::Trapped(Cause::Iot)),
+        Instr::Bpt => Ok(Ending::Broke),
+        Instr::Iot => Ok(Ending::Interrupted),
     }
 }
 
@@ -100,7 +100,9 @@ fn event(ending: Ending, trace: bool) -> Event
         }
         Ending::Returned => Event::Ran,
         Ending::Called(n) => Event::Call(n),
-        Ending::Trapped(cause) => Event::Fault(cause),
+        Ending::Broke => Event::Fault(Cause::Break),
+        Ending::Interrupted => Event::Fault(Cause::Iot),
+        Ending::Trapped => Event::Fault(Cause::Trap),
     }
 }
 

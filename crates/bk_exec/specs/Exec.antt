@@ -8,7 +8,7 @@ use Rattle.bk_isa.specs.declared.instr.Instr.TheVariants.{Double, Single, Xor, E
 use Rattle.bk_isa.specs.Decode.{decode_of}
 use Rattle.bk_operand.specs.Part.{Part, given, cut_off, ◌>>=◌, next_word}
 use Rattle.bk_exec.specs.declared.ending.Ending.{Ending}
-use Rattle.bk_exec.specs.declared.ending.Ending.TheVariants.{Completed, Returned, Called, Trapped}
+use Rattle.bk_exec.specs.declared.ending.Ending.TheVariants.{Completed, Returned, Called, Broke, Interrupted, Trapped}
 use Rattle.bk_exec.specs.declared.event.Event.{Event}
 use Rattle.bk_exec.specs.declared.event.Event.TheVariants.{Ran, Call, Fault}
 use Rattle.bk_exec.specs.Given.{Given, done, with_flags}
@@ -35,12 +35,12 @@ executed pages (Some (Branch cond offset)) regs = done None (branched cond offse
 executed pages (Some (Codes set mask)) regs = done None (with_flags regs (codes_of set mask regs.ps.flags))
 executed pages (Some (Spl level)) regs = done None regs
 executed pages (Some (Emt n)) regs = given (None, Called n) regs
-executed pages (Some (Trap n)) regs = given (None, Trapped causes.Trap) regs
+executed pages (Some (Trap n)) regs = given (None, Trapped) regs
 executed pages (Some Halt) regs = cut_off causes.Reserved
 executed pages (Some Wait) regs = done None regs
 executed pages (Some Rti) regs = resuming pages Completed regs
-executed pages (Some Bpt) regs = given (None, Trapped causes.Break) regs
-executed pages (Some Iot) regs = given (None, Trapped causes.Iot) regs
+executed pages (Some Bpt) regs = given (None, Broke) regs
+executed pages (Some Iot) regs = given (None, Interrupted) regs
 executed pages (Some Reset) regs = done None regs
 executed pages (Some Rtt) regs = resuming pages Returned regs
 
@@ -63,7 +63,9 @@ event_of Completed true = Fault causes.Break
 event_of Completed false = Ran
 event_of Returned trace = Ran
 event_of (Called n) trace = Call n
-event_of (Trapped cause) trace = Fault cause
+event_of Broke trace = Fault causes.Break
+event_of Interrupted trace = Fault causes.Iot
+event_of Trapped trace = Fault causes.Trap
 
 -- an instruction that is cut off leaves the registers as they were, and writes nothing
 abbrev pub finished : Regs → ℕ → Result (Given × Regs) Cause → Done

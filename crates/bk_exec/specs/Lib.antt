@@ -4,3 +4,4 @@ pub mod Extended
 pub mod Given
 pub mod Operands
 pub mod Previous
+pub mod Laws

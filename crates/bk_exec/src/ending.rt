@@ -1,5 +1,3 @@
-use bk_space::Cause;
-
 /// How an instruction ends that no fault cuts off.
 #[derive(Clone, Copy, PartialEq, Eq, Debug)]
 pub enum Ending {
@@ -9,6 +7,10 @@ pub enum Ending {
     Returned,
     /// EMT, with its number.
     Called(u8),
-    /// BPT, IOT or TRAP, with its fault.
-    Trapped(Cause),
+    /// BPT.
+    Broke,
+    /// IOT.
+    Interrupted,
+    /// TRAP.
+    Trapped,
 }
