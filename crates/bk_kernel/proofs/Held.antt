@@ -1,5 +1,5 @@
 -- Who holds what, by the list of holds.
-use Rattle.std.proofs.Common.{◌≡◌, ℕ, Bool, true, false, cond, ◌&&◌, ◌||◌, List, [], ◌∷◌, ◌++◌, map, refl, sym, ap, ◌∙◌, arith}
+use Rattle.std.proofs.Common.{◌≡◌, ℕ, Bool, true, false, cond, ◌&&◌, ◌||◌, List, [], ◌∷◌, map, refl, sym, ap, ◌∙◌, arith}
 use Rattle.std.specs.Prelude.{◌==◌, flat_map, filter}
 use Rattle.std.specs.List.{list_any}
 use Rattle.std.proofs.lemmas.Bool.Decides.{nat_tests}
@@ -8,14 +8,13 @@ use Rattle.std.specs.FinSet as set
 use Rattle.bk_object.specs.Modes.{Mode, Read, Execute, Write, Append, has}
 use Rattle.bk_path.specs.Paths.{Path, is_same, path_cmp}
 use Rattle.bk_state.specs.declared.image.Hold.{Hold}
-use Rattle.bk_state.specs.State.{Triple, triple_cmp}
+use Rattle.bk_state.specs.State.{triple_cmp}
 use Rattle.bk_state.specs.Start.{triples_from}
 use Rattle.bk_kernel.specs.Access.{gives}
 use Rattle.std.proofs.Common.{Ordering, Less, Equal, Greater, is_eq}
 use Rattle.std.specs.Cmp.{unsigned_tied}
 use Rattle.std.specs.Ordering.{ordering_then}
 use Rattle.std.proofs.lemmas.List.Folds.{list_any-append}
-use Rattle.std.specs.Prelude.{nat_eq}
 use Rattle.bk_object.specs.Modes.{mode_number}
 use Rattle.bk_object.specs.declared.modes.Modes.{Modes}
 use Rattle.bk_state.specs.Start.{modes_in}

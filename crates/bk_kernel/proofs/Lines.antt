@@ -1,5 +1,5 @@
 -- The lines of items one after another.
-use Rattle.std.proofs.Common.{◌≡◌, ℕ, List, [], ◌∷◌, ◌++◌, refl, sym, ◌∙◌, ap, append_assoc, append-nil}
+use Rattle.std.proofs.Common.{◌≡◌, List, [], ◌∷◌, ◌++◌, refl, sym, ◌∙◌, ap, append_assoc, append-nil}
 use Rattle.bk_base.specs.Written.{IsFront}
 use Rattle.bk_report.specs.Text.{text_of, lines_of}
 use Rattle.bk_report.specs.declared.item.ReportItem.{ReportItem}

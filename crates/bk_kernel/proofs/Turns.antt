@@ -1,5 +1,5 @@
 -- The turns of a slot one after another.
-use Rattle.std.proofs.Common.{◌≡◌, ℕ, zero, suc, ◌+◌, ◌-◌, ◌^◌, ◌≤◌, ◌<◌, min, max, List, [], ◌∷◌, ◌++◌, length, refl, sym, ◌∙◌, ap, arith, append_assoc, append-nil, cond}
+use Rattle.std.proofs.Common.{◌≡◌, ℕ, zero, suc, ◌+◌, ◌-◌, ◌^◌, ◌≤◌, ◌<◌, min, max, List, [], ◌++◌, refl, sym, ◌∙◌, ap, arith, append_assoc, append-nil, cond}
 use Rattle.std.proofs.lemmas.List.Sums.{sum_by-append}
 use Rattle.bk_report.specs.declared.item.ReportItem.{ReportItem}
 use Rattle.bk_state.specs.State.{State}
@@ -48,7 +48,8 @@ calls_more xs ys = sum_by-append (λ (x : ReportItem). cond (is_call x) 1 0) xs 
 -- no turn yet
 pub with_turns-none : (p : Progress) → with_turns p (nothing p.state) 0 ≡ p
 with_turns-none p = λ i. record {
-  state = p.state; slots = p.slots;
+  state = p.state;
+  slots = p.slots;
   since = raised_none p.since (2 ^ 16 - 1) i;
   turns = raised_none p.turns (2 ^ 32 - 1) i;
   references = raised_none p.references (2 ^ 64 - 1) i;
@@ -61,7 +62,8 @@ unfolding after_turn
 with_turns-next p a s t fresh few =
     ap (λ n. with_turns (with_turns p a t) (turn_of p.slots n a.state s) 1) number
     ∙ (λ i. record {
-      state = b.state; slots = p.slots;
+      state = b.state;
+      slots = p.slots;
       since = raised_twice p.since t 1 (2 ^ 16 - 1) i;
       turns = raised_twice p.turns t 1 (2 ^ 32 - 1) i;
       references = raised_twice p.references a.references b.references (2 ^ 64 - 1) i;

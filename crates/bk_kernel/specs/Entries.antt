@@ -1,5 +1,5 @@
 -- Objects in the kernel's list.
-use Rattle.std.specs.Prelude.{◌≡◌, ℕ, List, [], Option, Some, None, IsFalse}
+use Rattle.std.specs.Prelude.{◌≡◌, ℕ, List, Option, Some, None, IsFalse}
 use Rattle.std.specs.FinMap as finmap
 use Rattle.bk_path.specs.Paths.{Path, path_cmp}
 use Rattle.bk_system.specs.Space.{Page, is_absent}

@@ -1,7 +1,6 @@
 -- How far a kernel has come: the state, the slots that have ended, the turns since the last one ended, and the totals.
 -- A count stands still at the last value of its type.
 use Rattle.std.specs.Prelude.{ℕ, ◌+◌, ◌-◌, ◌^◌, min, max, List}
-use Rattle.bk_report.specs.declared.item.ReportItem.{ReportItem}
 use Rattle.bk_state.specs.State.{State}
 use Rattle.bk_system.specs.declared.script.TypedAt.{TypedAt}
 use Rattle.bk_system.specs.Step.{Step}

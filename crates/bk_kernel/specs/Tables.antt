@@ -1,5 +1,5 @@
 -- The state that the kernel's lists keep.
-use Rattle.std.specs.Prelude.{List, flat_map}
+use Rattle.std.specs.Prelude.{flat_map}
 use Rattle.std.specs.FinSet as set
 use Rattle.bk_state.specs.State.{State}
 use Rattle.bk_state.specs.Start.{triples_from}

@@ -14,7 +14,10 @@ use bk_base::NoMemory;
 use bk_object::Kind;
 use bk_path::Path;
 use bk_space::Flags;
-use bk_state::{Clearance, Image, ObjectRec, Process, ProcessorStatus, Registers, Status9, SubjectRec, WindowRec};
+use bk_state::{
+    Clearance, Image, ObjectRec, Process, ProcessorStatus, Registers, Status9, SubjectRec,
+    WindowRec,
+};
 use std::alloc::{AllocError, Global};
 
 /// The given words, and zeros up to 32 words a block.

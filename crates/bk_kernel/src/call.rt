@@ -13,8 +13,11 @@ use bk_system::Cause;
 
 /// The numbers of the calls.
 const LINE_OUT: u8 = 0o17;
+
 const LINE_IN: u8 = 0o20;
+
 const PAUSE: u8 = 0o24;
+
 const STOP: u8 = 0o26;
 
 /// The path in R1 and R2, or root where they spell none.
@@ -74,7 +77,13 @@ impl Tables {
     }
 
     /// The byte that a line out gives.
-    pub(crate) fn sent(&self, slot: u32, turn: u16, process: &Process, number: u8) -> Option<ReportItem>
+    pub(crate) fn sent(
+        &self,
+        slot: u32,
+        turn: u16,
+        process: &Process,
+        number: u8,
+    ) -> Option<ReportItem>
         ensures { option_to_list result ≡ sent self.now slot turn process.now number }
     {
         if number != LINE_OUT {

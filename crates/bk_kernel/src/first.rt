@@ -66,11 +66,7 @@ fn instruction_of(word: u16) -> Option<Instruction>
 fn general(registers: &Registers, number: u8) -> u16
     ensures { result ≡ slice_index registers.now.general number }
 {
-    registers
-        .general
-        .get(number as usize)
-        .copied()
-        .unwrap_or(0)
+    registers.general.get(number as usize).copied().unwrap_or(0)
 }
 
 fn with_general(mut registers: Registers, number: u8, value: u16) -> Registers
@@ -173,14 +169,26 @@ fn tested(value: u16, registers: Registers) -> Registers
 
 impl Tables {
     /// The word at the program counter, in instruction space of the current mode.
-    fn next_word(&self, subject: u8, windows: &[Option<Path>; 32], registers: &Registers) -> Result<u16, Abort>
+    fn next_word(
+        &self,
+        subject: u8,
+        windows: &[Option<Path>; 32],
+        registers: &Registers,
+    ) -> Result<u16, Abort>
         ensures { result ≡ next_word registers.now (space_of self.now subject windows.now) }
     {
         self.read_word(subject, windows, registers.status.mode, registers.pc)
     }
 
     /// Moves the word after the instruction; `before` are the registers before it, and `now` those past its word.
-    fn immediate(&self, subject: u8, windows: &[Option<Path>; 32], before: Registers, now: Registers, destination: u8) -> Executed
+    fn immediate(
+        &self,
+        subject: u8,
+        windows: &[Option<Path>; 32],
+        before: Registers,
+        now: Registers,
+        destination: u8,
+    ) -> Executed
         ensures { result ≡ immediate before now destination (next_word now (space_of self.now subject windows.now)) }
     {
         match self.next_word(subject, windows, &now) {
@@ -194,14 +202,23 @@ impl Tables {
     }
 
     /// What an instruction comes to.
-    fn executed(&self, subject: u8, windows: &[Option<Path>; 32], before: Registers, now: Registers, instruction: Option<Instruction>) -> Executed
+    fn executed(
+        &self,
+        subject: u8,
+        windows: &[Option<Path>; 32],
+        before: Registers,
+        now: Registers,
+        instruction: Option<Instruction>,
+    ) -> Executed
         ensures { result ≡ executed before now (space_of self.now subject windows.now) instruction }
     {
         match instruction {
-            Some(Instruction::Move {
-                source,
-                destination,
-            }) => ran(moved(general(&now, source), destination, now)),
+            Some(
+                Instruction::Move {
+                    source,
+                    destination,
+                },
+            ) => ran(moved(general(&now, source), destination, now)),
             Some(Instruction::MoveImmediate { destination }) => {
                 self.immediate(subject, windows, before, now, destination)
             }
@@ -219,11 +236,22 @@ impl Tables {
 
     /// One instruction of a process.
     #[tactic(auto, unfolding(bk_system::specs::First::exec))]
-    pub(crate) fn execute(&self, subject: u8, windows: &[Option<Path>; 32], registers: Registers) -> Executed
+    pub(crate) fn execute(
+        &self,
+        subject: u8,
+        windows: &[Option<Path>; 32],
+        registers: Registers,
+    ) -> Executed
         ensures { result ≡ exec registers (space_of self.now subject windows.now) }
     {
         match self.next_word(subject, windows, &registers) {
-            Ok(word) => self.executed(subject, windows, registers, past_word(registers), instruction_of(word)),
+            Ok(word) => self.executed(
+                subject,
+                windows,
+                registers,
+                past_word(registers),
+                instruction_of(word),
+            ),
             Err(abort) => faulted(registers, 1, cause_of(abort)),
         }
     }

@@ -18,12 +18,12 @@ ghost use Rattle.bk_path.specs.Paths.{is_same};
 ghost use Rattle.bk_kernel.specs.Access.{mode_of, gives};
 
 use crate::entry::Entry;
+use bitflags::Flags;
 use bk_level::LevelTable;
 use bk_object::{Facts, Kind, Modes};
 use bk_path::Path;
 use bk_space::{Abort, Mode, Rights};
 use bk_state::{Clearance, Hold, Process, Status9};
-use bitflags::Flags;
 use bk_system::TypedAt;
 use std::marker::Model;
 
@@ -210,7 +210,13 @@ impl Tables {
 
     /// The word at an address of instruction space.
     #[tactic(auto, unfolding(bk_system::specs::Space::space_of))]
-    pub(crate) fn read_word(&self, subject: u8, windows: &[Option<Path>; 32], mode: Mode, address: u16) -> Result<u16, Abort>
+    pub(crate) fn read_word(
+        &self,
+        subject: u8,
+        windows: &[Option<Path>; 32],
+        mode: Mode,
+        address: u16,
+    ) -> Result<u16, Abort>
         ensures { result ≡ reading (space_of self.now subject windows.now (window_of mode I address)) address }
     {
         if address % 2 == 1 {

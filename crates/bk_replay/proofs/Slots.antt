@@ -1,11 +1,10 @@
 -- Slots one after another, and their counts.
-use Rattle.std.proofs.Common.{◌≡◌, ℕ, zero, suc, ◌+◌, ◌-◌, ◌*◌, ◌^◌, ◌≤◌, ◌<◌, min, max, List, [], ◌∷◌, ◌++◌, refl, sym, ◌∙◌, ap, arith, append_assoc, append-nil}
-use Rattle.bk_report.specs.declared.item.ReportItem.{ReportItem}
+use Rattle.std.proofs.Common.{◌≡◌, ℕ, zero, suc, ◌+◌, ◌-◌, ◌^◌, ◌≤◌, ◌<◌, min, max, List, [], ◌++◌, refl, sym, ◌∙◌, ap, arith, append_assoc, append-nil}
 use Rattle.bk_state.specs.State.{State}
 use Rattle.bk_system.specs.declared.script.TypedAt.{TypedAt}
-use Rattle.bk_system.specs.Step.{Step, nothing, joined}
+use Rattle.bk_system.specs.Step.{joined}
 use Rattle.bk_system.specs.Slot.{slot_of, slots_of, records_for}
-use Rattle.bk_kernel.specs.Progress.{Progress, begun, after_slot, next_slot}
+use Rattle.bk_kernel.specs.Progress.{Progress, after_slot, next_slot}
 use Rattle.bk_kernel.proofs.Turns.{Extends}
 use Rattle.bk_replay.specs.Played.{after_slots}
 

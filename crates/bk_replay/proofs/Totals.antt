@@ -1,15 +1,13 @@
 -- The kernel's totals after a run within its limits are those of the run.
 use Rattle.std.proofs.Common.{◌≡◌, ℕ, zero, suc, ◌+◌, ◌-◌, ◌*◌, ◌^◌, ◌≤◌, ◌<◌, min, max, List, ◌++◌, refl, sym, ◌∙◌, ap, arith}
-use Rattle.bk_report.specs.declared.item.ReportItem.{ReportItem}
 use Rattle.bk_state.specs.State.{State}
 use Rattle.bk_state.specs.declared.image.Image.{Image}
 use Rattle.bk_state.specs.Start.{state_of}
 use Rattle.bk_system.specs.declared.script.TypedAt.{TypedAt}
-use Rattle.bk_system.specs.Step.{Step}
 use Rattle.bk_system.specs.Slot.{slot_of, slots_of, records_for}
 use Rattle.bk_system.specs.Report.{calls_in}
-use Rattle.bk_system.proofs.Bounds.{Bounded, slots_of-Bounded, slot_of-Bounded, calls-append}
-use Rattle.bk_kernel.specs.Progress.{Progress, begun, raised, after_slot, next_slot}
+use Rattle.bk_system.proofs.Bounds.{slots_of-Bounded, slot_of-Bounded, calls-append}
+use Rattle.bk_kernel.specs.Progress.{Progress, raised, after_slot, next_slot}
 use Rattle.bk_system.specs.Slot.{run_of}
 use Rattle.bk_system.specs.Report.{report_of}
 use Rattle.bk_report.specs.Text.{lines_of}

@@ -1,5 +1,5 @@
 -- What a turn, a slot and a run leave as it was, and how much they count at most.
-use Rattle.std.proofs.Common.{◌≡◌, ℕ, zero, suc, ◌+◌, ◌*◌, ◌%◌, ◌≤◌, Bool, true, false, cond, List, [], ◌∷◌, ◌++◌, Option, Some, None, refl, sym, ap, ◌∙◌, arith}
+use Rattle.std.proofs.Common.{◌≡◌, ℕ, zero, suc, ◌+◌, ◌*◌, ◌%◌, ◌≤◌, Bool, true, false, cond, List, [], ◌∷◌, ◌++◌, Option, Some, None, refl, ap, ◌∙◌, arith}
 use Rattle.std.specs.Prelude.{Result, Ok, Err, ◌==◌, slice_index}
 use Rattle.std.proofs.lemmas.List.Sums.{sum_by-append, sum_by-cons}
 use Rattle.bk_space.specs.declared.Abort.{Abort}
@@ -19,7 +19,7 @@ use Rattle.bk_system.specs.declared.first.Cause.{Cause}
 use Rattle.bk_system.specs.declared.script.TypedAt.{TypedAt}
 use Rattle.bk_system.specs.Space.{AddrSpace, space_of}
 use Rattle.bk_system.specs.Step.{Step}
-use Rattle.bk_system.specs.First.{exec, started, executed, immediate, past_word, next_word, instruction_of, is_built, not_executed, without_byte_at, byte_in, byte_out, done, sent, settled, ended, refusal, took, taken_by, taken, turn_of, path_in, with_process}
+use Rattle.bk_system.specs.First.{exec, started, executed, immediate, past_word, next_word, instruction_of, is_built, not_executed, without_byte_at, byte_out, done, sent, settled, ended, refusal, taken_by, taken, turn_of, path_in}
 use Rattle.bk_system.specs.Slot.{arrived, all_arrived, slot_ended, turns_of, slot_of, slots_of, subject_of, records_for}
 use Rattle.bk_system.specs.Report.{is_call, calls_in}
 

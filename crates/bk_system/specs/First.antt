@@ -1,10 +1,9 @@
 -- The first processor: MOV, TST, BR, BEQ and EMT, and the calls line out, line in, pause and stop. Every other word and
 -- every other call is fault 9, "not built". No built call sets a fault entry and no first image has one, so that every
 -- fault stops its process.
-use Rattle.std.specs.Prelude.{ℕ, ◌+◌, ◌*◌, ◌/◌, ◌%◌, ◌^◌, Bool, true, false, not, ◌||◌, List, [], ◌∷◌, ◌++◌, Option, Some, None, is_none, ◌==◌, nat_lt, nat_le, slice_index, slice_set, find as first, Result, Ok, Err, if◌then◌else◌}
+use Rattle.std.specs.Prelude.{ℕ, ◌+◌, ◌*◌, ◌/◌, ◌%◌, ◌^◌, Bool, true, false, not, ◌||◌, List, [], ◌∷◌, Option, Some, None, is_none, ◌==◌, nat_lt, nat_le, slice_index, slice_set, find as first, Result, Ok, Err, if◌then◌else◌}
 use Rattle.std.specs.FinMap as map
 use Rattle.bk_space.specs.declared.Space.TheVariants.{I}
-use Rattle.bk_space.specs.declared.Flags.{Flags}
 use Rattle.bk_space.specs.declared.Abort.{Abort}
 use Rattle.bk_space.specs.declared.Abort.TheVariants.{Odd, NonResident, Length, ReadOnly}
 use Rattle.bk_path.specs.Paths.{Path, unpack}

@@ -1,6 +1,5 @@
 -- Typed bytes, slots and runs.
-use Rattle.std.specs.Prelude.{ℕ, zero, suc, ◌+◌, ◌%◌, Bool, List, [], ◌∷◌, ◌++◌, length, map, filter, fold, ◌==◌, nat_lt, slice_index, if◌then◌else◌}
-use Rattle.bk_object.specs.declared.kind.Kind.{Kind}
+use Rattle.std.specs.Prelude.{ℕ, zero, suc, ◌%◌, List, [], ◌∷◌, ◌++◌, length, map, filter, fold, ◌==◌, nat_lt, slice_index, if◌then◌else◌}
 use Rattle.bk_state.specs.declared.image.Image.{Image}
 use Rattle.bk_state.specs.declared.process.Process.{Process}
 use Rattle.bk_state.specs.declared.process.Status9.{Status9}

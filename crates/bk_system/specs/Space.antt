@@ -7,7 +7,7 @@ use Rattle.bk_space.specs.declared.Space.TheVariants.{I, D}
 use Rattle.bk_space.specs.declared.Rights.{Rights}
 use Rattle.bk_space.specs.declared.Rights.TheVariants as rights
 use Rattle.bk_space.specs.declared.Abort.{Abort}
-use Rattle.bk_space.specs.declared.Abort.TheVariants.{Odd, NonResident, Length, ReadOnly}
+use Rattle.bk_space.specs.declared.Abort.TheVariants.{Odd, NonResident, Length}
 use Rattle.bk_path.specs.Paths.{Path}
 use Rattle.bk_object.specs.Modes.{Read, Execute, Write}
 use Rattle.bk_state.specs.State.{Contents, Children, Words, Messages, Typed, Object, State, find, holds}

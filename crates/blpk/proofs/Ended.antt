@@ -1,6 +1,6 @@
 -- What each status of the command says, from what the command came to and what was written on the error output.
-use Rattle.std.proofs.Common.{◌≡◌, ◌⊎◌, inl, inr, ℕ, List, [], refl, sym, ◌∙◌, ap, subst, Some, None, IfSome, Ok, Err}
-use Rattle.std.specs.Prelude.{Option, Result}
+use Rattle.std.proofs.Common.{◌≡◌, ◌⊎◌, inl, inr, ℕ, List, [], refl, sym, ◌∙◌, ap, subst, Some, None, IfSome}
+use Rattle.std.specs.Prelude.{Option}
 use Rattle.bk_state.specs.declared.Image.{Image}
 use Rattle.bk_state.specs.FirstImage.{first_image_of}
 use Rattle.bk_system.specs.declared.TypedAt.{TypedAt}
@@ -11,7 +11,7 @@ use Rattle.blpk.specs.declared.status.Status.{Status}
 use Rattle.blpk.specs.declared.status.Status.TheVariants as status
 use Rattle.blpk.specs.declared.status.Outcome.{Outcome}
 use Rattle.blpk.specs.declared.status.Outcome.TheVariants as outcome
-use Rattle.blpk.specs.Causes.{Spells, IsNoImage, IsNoScript, OfReport, Row, IsRefusal, Ran, Performed, Said, Finished, ByOut, ByErr, by_script, by_image, by_command, script_after, expected}
+use Rattle.blpk.specs.Causes.{Spells, IsNoImage, IsNoScript, OfReport, Row, IsRefusal, Ran, Performed, Said, Finished, ByOut, ByErr, by_script, by_image, by_command, expected}
 
 some_all : (left : Option (List ℕ)) (Q : List ℕ → Type 0) → ((bytes : List ℕ) → Q bytes) → IfSome left Q
 some_all None Q f = tt

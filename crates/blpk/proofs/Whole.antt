@@ -1,5 +1,5 @@
 -- What was read decides the image and the script of all that the input had left.
-use Rattle.std.proofs.Common.{◌≡◌, ℕ, ◌+◌, ◌-◌, ◌≤◌, ◌<◌, Bool, true, false, List, [], ◌++◌, length, drop, refl, sym, ◌∙◌, ap, arith, append-nil, length-drop, length-append, subst, Some, None, IfSome, Ok, Err}
+use Rattle.std.proofs.Common.{◌≡◌, ℕ, ◌≤◌, ◌<◌, Bool, true, false, List, [], ◌++◌, length, drop, refl, sym, ◌∙◌, ap, arith, append-nil, length-drop, length-append, subst, Some, None, IfSome, Ok, Err}
 use Rattle.std.specs.Prelude.{Option, Result, nat_lt}
 use Rattle.std.specs.Io.KnownBytes.{Consumes, IsAtEnd}
 use Rattle.std.proofs.lemmas.Bool.Decides.{nat_tests}
@@ -10,7 +10,7 @@ use Rattle.bk_system.specs.declared.TypedAt.{TypedAt}
 use Rattle.bk_script.specs.declared.fault.ScriptFault.{ScriptFault}
 use Rattle.bk_script.specs.declared.fault.ScriptKind.TheVariants.{Long}
 use Rattle.bk_script.specs.Lines.{script_of}
-use Rattle.blpk.specs.Causes.{after_image, script_after}
+use Rattle.blpk.specs.Causes.{script_after}
 
 -- the bytes and what was read of them are an image and a script alike
 pub record Decides (bytes read : List ℕ) : Type 0 where

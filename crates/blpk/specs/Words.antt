@@ -1,5 +1,5 @@
 -- The words of the command line.
-use Rattle.std.specs.Prelude.{ℕ, List, [], ◌∷◌, Bool, Option, Some, None, String, string_bytes, bytes_eq, codes, map, if◌then◌else◌}
+use Rattle.std.specs.Prelude.{ℕ, List, [], ◌∷◌, Option, Some, None, String, string_bytes, bytes_eq, codes, map, if◌then◌else◌}
 use Rattle.blpk.specs.declared.words.Command.{Command}
 use Rattle.blpk.specs.declared.words.Command.TheVariants.{Run}
 

@@ -34,7 +34,11 @@ pub fn finish<E: Sink>(err: &mut E, outcome: Outcome) -> Status
         ),
         Outcome::Read => say(err, b"read fault\n", Status::ReadFault),
         Outcome::Image => say(err, b"image refused at 0: first\n", Status::ImageRefused),
-        Outcome::Script => say(err, b"script refused at line 0: first\n", Status::ScriptRefused),
+        Outcome::Script => say(
+            err,
+            b"script refused at line 0: first\n",
+            Status::ScriptRefused,
+        ),
         Outcome::NoMemory => say(err, b"no memory\n", Status::NoMemory),
     }
 }

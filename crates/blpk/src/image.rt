@@ -4,13 +4,16 @@ ghost use Rattle.std.specs.Prelude.{◌≡◌, ◌<◌, ◌++◌, ◌∷◌, [],
 ghost use Rattle.bk_state.specs.FirstImage.{first_image, first_image_of, spelt_image, is_first, words_of, level_of_class, row_of, subject_at, facts_with, object_at, hold_of};
 ghost use Rattle.blpk.specs.Reading.{Reads};
 
+use bitflags::Flags;
 use bk_base::{Bytes, Words};
 use bk_level::{Level, LevelTable};
 use bk_object::{Facts, Kind, Modes, Row};
 use bk_path::Path;
 use bk_space::Mode;
-use bk_state::{FIRST_BACK, FIRST_FRONT, Hold, Holds, Image, ObjectRec, Objects, SubjectRec, Subjects, WindowRec, Windows};
-use bitflags::Flags;
+use bk_state::{
+    FIRST_BACK, FIRST_FRONT, Hold, Holds, Image, ObjectRec, Objects, SubjectRec, Subjects,
+    WindowRec, Windows,
+};
 use std::alloc::{AllocError, Global};
 
 /// Why no first image was read.
@@ -99,7 +102,12 @@ fn row_of(first: u8, second: u8) -> Row
 fn subject_at(alloc: Global, level: u8, line_word: u16) -> Result<SubjectRec, AllocError>
     ensures { IfOk result (λ subject. subject ≡ subject_at level line_word) }
 {
-    let windows = vec![in alloc; WindowRec { index: 16, path: child(0) }]?;
+    let windows = vec![in alloc;
+        WindowRec {
+            index: 16,
+            path: child(0)
+        },
+    ]?;
     Ok(SubjectRec {
         f_s: level,
         f_c: level,

@@ -12,19 +12,33 @@ mod finish;
 mod image;
 mod perform;
 mod status;
+#[cfg(test)]
+mod tests;
 mod top;
 mod words;
 
 use bk_base::{StdSink, StdSource};
+use std::alloc::AllocError;
 use std::process::ExitCode;
 use std::{env, io};
 use top::run_blpk;
 
-fn main(rt: HostRuntime) -> io::Result<ExitCode> {
+/// The words of the command line. Words that aren't UTF-8 are none of the command's, and so is the empty one in their place.
+fn command_line(rt: &HostRuntime) -> Result<Vec<String>, AllocError> {
     let mut words = Vec::new(rt.alloc());
-    for word in env::args(&rt)?.skip(1) {
-        words.push(word)?;
+    match env::args(rt) {
+        Ok(all) => {
+            for word in all.skip(1) {
+                words.push(word)?;
+            }
+        }
+        Err(_) => words.push(String::new(rt.alloc()))?,
     }
+    Ok(words)
+}
+
+fn main(rt: HostRuntime) -> io::Result<ExitCode> {
+    let words = command_line(&rt)?;
     let mut input = StdSource::new(rt.stdin());
     let mut out = StdSink::new(rt.stdout());
     let mut err = StdSink::new(rt.stderr());

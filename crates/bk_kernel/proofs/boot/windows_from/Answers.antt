@@ -1,4 +1,4 @@
-use Rattle.std.proofs.Common.{◌≡◌, ◌≤◌, ℕ, List, length, Option, None, arith}
+use Rattle.std.proofs.Common.{◌≤◌, List, Option, None, arith}
 use Rattle.std.specs.Prelude.{replicate}
 use Rattle.bk_path.specs.Paths.{Path}
 use Rattle.bk_state.specs.Start.{shown_in, windows_from}

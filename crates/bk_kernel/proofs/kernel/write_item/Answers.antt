@@ -1,4 +1,4 @@
-use Rattle.std.proofs.Common.{◌≡◌, List, ℕ, rules, sym, subst}
+use Rattle.std.proofs.Common.{◌≡◌, List, ℕ, rules, subst}
 use Rattle.bk_base.specs.Written.{Took, Broke}
 use Rattle.bk_base.proofs.Written.{took_nil, on_ok_map, on_err_map}
 use Rattle.bk_report.specs.Text.{text_of}

@@ -1,4 +1,4 @@
-use Rattle.std.proofs.Common.{◌≡◌, refl}
+use Rattle.std.proofs.Common.{refl}
 use Rattle.std.specs.Prelude.{option_to_list}
 use Rattle.bk_base.proofs.Written.{took_then, broke_then, broke_within, on_err_any, on_ok_map, on_err_map}
 use Rattle.bk_kernel.specs.Items.{items_of}

@@ -1,4 +1,4 @@
-use Rattle.std.proofs.Common.{◌≡◌, ◌∙◌, sym, ap, Some}
+use Rattle.std.proofs.Common.{◌∙◌, sym, ap, Some}
 use Rattle.bk_kernel.proofs.Objects.{found_there, found_nowhere}
 use Rattle.bk_kernel.proofs.tables.find_entry.Goals as goal
 

@@ -1,9 +1,6 @@
-use Rattle.std.proofs.Common.{◌≡◌, ◌∙◌, sym, ap, subst, Some, None, get_or, IsTrue, Option}
+use Rattle.std.proofs.Common.{◌∙◌, sym, ap}
 use Rattle.std.proofs.Math.ListN.{set}
-use Rattle.std.specs.FinMap as finmap
-use Rattle.bk_state.specs.Named.{passes}
-use Rattle.bk_state.specs.State.{Object}
-use Rattle.bk_system.specs.First.{has_byte, byte_at}
+use Rattle.bk_system.specs.First.{byte_at}
 use Rattle.bk_kernel.specs.Entries.{objects_of, with_object, without_byte_in}
 use Rattle.bk_kernel.proofs.Objects.{found_there, found_nowhere, set_there}
 use Rattle.bk_kernel.proofs.tables.take_byte_of.Goals as goal

@@ -1,15 +1,14 @@
-use Rattle.std.proofs.Common.{◌≡◌, ◌∙◌, ◌++◌, ◌^◌, ℕ, List, refl, sym, ap, subst}
+use Rattle.std.proofs.Common.{◌≡◌, ◌∙◌, ◌++◌, ℕ, List, sym, ap, subst}
 use Rattle.bk_base.specs.Written.{Took, Broke}
-use Rattle.bk_base.proofs.Written.{took_then, broke_then, broke_within, on_ok_map}
+use Rattle.bk_base.proofs.Written.{took_then, broke_then, broke_within}
 use Rattle.bk_report.specs.Text.{lines_of}
 use Rattle.bk_state.specs.State.{State}
 use Rattle.bk_state.specs.Start.{state_of}
 use Rattle.bk_system.specs.declared.script.TypedAt.{TypedAt}
 use Rattle.bk_system.specs.Slot.{slots_of}
 use Rattle.bk_system.specs.Report.{report_of}
-use Rattle.bk_kernel.specs.Progress.{Progress}
 use Rattle.bk_replay.specs.Played.{after_slots, end_text, summary_of}
-use Rattle.bk_replay.proofs.Totals.{report_is, summary_exact, summary_in}
+use Rattle.bk_replay.proofs.Totals.{report_is, summary_exact}
 use Rattle.bk_replay.proofs.playing.play.Goals as goal
 
 pub returns-in_err-play_slots-clause-failed : goal.returns-in_err-play_slots-clause-failed

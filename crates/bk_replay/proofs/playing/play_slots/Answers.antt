@@ -1,5 +1,5 @@
-use Rattle.std.proofs.Common.{◌≡◌, ◌∙◌, ◌<◌, ◌≤◌, ◌+◌, ◌++◌, ◌^◌, ℕ, suc, List, take, drop, refl, sym, ap, rules, subst, arith, add-one}
-use Rattle.bk_base.specs.Written.{Took, Broke}
+use Rattle.std.proofs.Common.{◌≡◌, ◌∙◌, ◌<◌, ◌+◌, ◌++◌, ◌^◌, ℕ, List, take, drop, refl, sym, ap, subst, arith, add-one}
+use Rattle.bk_base.specs.Written.{Broke}
 use Rattle.bk_base.proofs.Written.{took_nil, took_then, broke_then, broke_within, on_err_any}
 use Rattle.bk_report.specs.Text.{lines_of}
 use Rattle.bk_script.specs.Script.{IsInOrder}
@@ -9,7 +9,7 @@ use Rattle.bk_system.specs.Step.{Step}
 use Rattle.bk_system.specs.Slot.{slot_of, slots_of, records_for}
 use Rattle.bk_kernel.specs.Progress.{Progress, next_slot, after_slot}
 use Rattle.bk_kernel.proofs.Lines.{lines_none, lines_more, lines_front}
-use Rattle.bk_replay.specs.Played.{count_front, after_slots}
+use Rattle.bk_replay.specs.Played.{count_front}
 use Rattle.bk_replay.proofs.Records.{From, from_first, parted}
 use Rattle.bk_replay.proofs.Slots.{slots_next, after_slots-next, slot_front, after_slot-state, after_slot-since, after_slot-slots}
 use Rattle.bk_replay.proofs.playing.play_slots.Goals as goal

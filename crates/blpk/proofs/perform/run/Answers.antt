@@ -1,13 +1,8 @@
-use Rattle.std.proofs.Common.{◌≡◌, ◌∙◌, ◌<◌, ℕ, List, [], length, drop, refl, sym, ap, arith, subst, Some, None, Ok, Err, IfSome}
-use Rattle.std.specs.Prelude.{Result}
-use Rattle.std.specs.Io.KnownBytes.{Appends, IsAtEnd}
-use Rattle.bk_base.specs.Outside.{Rose}
-use Rattle.bk_base.specs.Written.{Took, Broke}
+use Rattle.std.proofs.Common.{◌≡◌, ◌∙◌, ◌<◌, ℕ, List, [], length, refl, sym, ap, arith, subst, Some, None, Ok, Err}
+use Rattle.std.specs.Io.KnownBytes.{IsAtEnd}
 use Rattle.bk_state.specs.declared.Image.{Image}
 use Rattle.bk_state.specs.FirstImage.{first_image_of}
 use Rattle.bk_system.specs.declared.TypedAt.{TypedAt}
-use Rattle.bk_system.specs.Report.{report_of}
-use Rattle.bk_script.specs.declared.fault.ScriptFault.{ScriptFault}
 use Rattle.bk_script.specs.declared.fault.ScriptStop.{ScriptStop}
 use Rattle.bk_script.specs.Lines.{script_of}
 use Rattle.bk_script.specs.Script.{Refuses}
@@ -37,12 +32,11 @@ returns-in-Err-Bad-read_script g c =
     let rest : c.after_image.result.now ≡ after_image read = c.after_image.ensures ∙ ap after_image c.as_slice-2.ensures.value in
     let bad : script_of image.lines image.turns c.after_image.result.now ≡ Err c.in-Err-Bad-read_script.field-0-0 =
     subst (λ (s : ScriptStop). Refuses s (script_of image.lines image.turns c.after_image.result.now)) c.in-Err-Bad-read_script.field-0-is c.in-Err-Bad-read_script.ensures.bad in
-    let fault : script_after image read ≡ Err c.in-Err-Bad-read_script.field-0-0 = ap (script_of image.lines image.turns) (sym rest) ∙ bad in
-    (
+    let fault : script_after image read ≡ Err c.in-Err-Bad-read_script.field-0-0 = ap (script_of image.lines image.turns) (sym rest) ∙ bad in (
       refl,
       some_map _ (λ bytes. Decides bytes read) IsNoScript
-      (λ bytes d. record { image = image; fault = c.in-Err-Bad-read_script.field-0-0; image_is = d.image ∙ there; script_is = d.script image ∙ fault })
-      (whole _ _ read c.in-Ok.ensures.bytes end),
+          (λ bytes d. record { image = image; fault = c.in-Err-Bad-read_script.field-0-0; image_is = d.image ∙ there; script_is = d.script image ∙ fault })
+          (whole _ _ read c.in-Ok.ensures.bytes end),
     )
 
 pub play-requires-clause-first : goal.play-requires-clause-first
@@ -59,11 +53,16 @@ returns-in-Ok-play g c =
     let slots : ℕ = c.in-Ok-read_script.script.slots in
     let script : script_after image read ≡ Ok (records, slots) = ap (script_of image.lines image.turns) (sym rest) ∙ c.in-Ok-read_script.ensures.ok in
     some_map _ (λ bytes. (g.I.Source.left c.read_all.new.src ≡ Some []) × Decides bytes read) _
-    (λ bytes d. (d.0, record {
-      image = image; records = records; slots = slots;
-      spells = record { image_is = d.1.image ∙ there; script_is = d.1.script image ∙ script };
-      report = c.in-Ok-play.ensures.written.bytes;
-    }))
+    (λ bytes d. (
+      d.0,
+      record {
+        image = image;
+        records = records;
+        slots = slots;
+        spells = record { image_is = d.1.image ∙ there; script_is = d.1.script image ∙ script };
+        report = c.in-Ok-play.ensures.written.bytes;
+      },
+    ))
     (read_whole _ _ read image (records, slots) c.in-Ok.ensures.bytes end script)
 
 pub returns-in-Err-Write : goal.returns-in-Err-Write
@@ -76,14 +75,15 @@ returns-in-Err-Write g c =
     let records : List TypedAt = c.in-Ok-read_script.script.typed in
     let slots : ℕ = c.in-Ok-read_script.script.slots in
     let script : script_after image read ≡ Ok (records, slots) = ap (script_of image.lines image.turns) (sym rest) ∙ c.in-Ok-read_script.ensures.ok in
-    let broke = c.in-Err-Write.ensures.failed (ap (λ (s : PlayStop). Err s) c.in-Err-Write.field-0-is) in
-    (
+    let broke = c.in-Err-Write.ensures.failed (ap (λ (s : PlayStop). Err s) c.in-Err-Write.field-0-is) in (
       broke.rose,
       some_map _ (λ bytes. Decides bytes read) (OfReport (TookPart (g.O.Sink.taken c.args.out.now) (g.O.Sink.taken c.play.new.out)))
-      (λ bytes d. record {
-        image = image; records = records; slots = slots;
-        spells = record { image_is = d.image ∙ there; script_is = d.script image ∙ script };
-        report = broke.part;
-      })
-      (whole _ _ read c.in-Ok.ensures.bytes end),
+          (λ bytes d. record {
+            image = image;
+            records = records;
+            slots = slots;
+            spells = record { image_is = d.image ∙ there; script_is = d.script image ∙ script };
+            report = broke.part;
+          })
+          (whole _ _ read c.in-Ok.ensures.bytes end),
     )

@@ -1,13 +1,12 @@
-use Rattle.std.proofs.Common.{◌≡◌, ◌∙◌, ◌<◌, ◌+◌, ◌++◌, ◌^◌, ℕ, refl, sym, ap, rules, subst, arith}
+use Rattle.std.proofs.Common.{◌≡◌, ◌∙◌, ◌<◌, ◌+◌, ◌++◌, ◌^◌, ℕ, sym, ap, subst, arith}
 use Rattle.bk_base.specs.Written.{Took, Broke}
 use Rattle.bk_base.proofs.Written.{took_nil, took_then, broke_then, broke_within, on_err_any}
 use Rattle.bk_report.specs.Text.{lines_of}
-use Rattle.bk_state.specs.State.{State}
 use Rattle.bk_system.specs.Step.{Step}
 use Rattle.bk_system.specs.First.{turn_of}
-use Rattle.bk_system.specs.Slot.{all_arrived, turns_of, subject_of, slot_of, slot_ended}
+use Rattle.bk_system.specs.Slot.{turns_of, slot_of}
 use Rattle.bk_kernel.specs.Items.{items_of}
-use Rattle.bk_kernel.specs.Progress.{Progress, with_arrived, with_turns, with_slot, next_turn, after_turn, after_end, after_slot}
+use Rattle.bk_kernel.specs.Progress.{Progress, with_arrived, with_turns, next_turn, after_turn, after_end, after_slot}
 use Rattle.bk_kernel.proofs.Lines.{lines_none, lines_more, lines_front}
 use Rattle.bk_kernel.proofs.Turns.{turns_next, turn_front, with_turns-none, with_turns-next, turn_number}
 use Rattle.bk_kernel.proofs.kernel.Kernel.slot.Goals as goal
