@@ -1,4 +1,4 @@
-ghost use Rattle.std.specs.Prelude.{◌≡◌};
+ghost use Rattle.std.specs.Prelude.{◌≡◌, ◌≤◌};
 ghost use Rattle.bk_space.specs.declared.cause.Cause.{Cause};
 ghost use Rattle.bk_space.specs.declared.registers.Regs.{Regs};
 ghost use Rattle.bk_space.specs.AddrSpace.{AddrSpace};
@@ -9,4 +9,9 @@ ghost use Rattle.bk_exec.specs.Laws.{IsCutOff, ChangesNothing};
 /// After the faults 0 to 4 the registers are those before the instruction, and nothing is written.
 pub fn law_faults()
     ensures { (pages : AddrSpace) (before : Regs) (cause : Cause) → IsCutOff cause → (exec pages before).outcome ≡ Fault cause → ChangesNothing before (exec pages before) }
+{}
+
+/// One instruction makes at most eight references: its word, three for each operand, and the write.
+pub fn law_references()
+    ensures { (pages : AddrSpace) (before : Regs) → (exec pages before).references ≤ 8 }
 {}
