@@ -18,6 +18,8 @@ mod top;
 mod words;
 
 use bk_base::{StdSink, StdSource};
+use finish::finish;
+use status::Outcome;
 use std::alloc::AllocError;
 use std::process::ExitCode;
 use std::{env, io};
@@ -38,10 +40,12 @@ fn command_line(rt: &HostRuntime) -> Result<Vec<String>, AllocError> {
 }
 
 fn main(rt: HostRuntime) -> io::Result<ExitCode> {
-    let words = command_line(&rt)?;
     let mut input = StdSource::new(rt.stdin());
     let mut out = StdSink::new(rt.stdout());
     let mut err = StdSink::new(rt.stderr());
-    let status = run_blpk(rt.alloc(), &words, &mut input, &mut out, &mut err);
+    let status = match command_line(&rt) {
+        Ok(words) => run_blpk(rt.alloc(), &words, &mut input, &mut out, &mut err),
+        Err(_) => finish(&mut err, Outcome::NoMemory),
+    };
     Ok(ExitCode::from(status.number()))
 }
