@@ -6,7 +6,7 @@ ghost use Rattle.bk_cpu.specs.Plain.{page_in};
 use crate::step_case::{CasePage, Content, StepCase};
 use crate::unread::Unread;
 use bk_cpu::{Event, PlainBus, step};
-use bk_space::{Regs, Width};
+use bk_space::{Flags, Mode, Ps, Regs, Width};
 use std::alloc::{AllocError, Global};
 
 /// The words of a page, all 0.
@@ -93,10 +93,41 @@ fn has_pages(alloc: Global, bus: &PlainBus, case: &StepCase) -> Result<bool, Unr
     Ok(true)
 }
 
-fn same_regs(a: Regs, b: Regs) -> bool
+fn same_words(a: [u16; 6], b: [u16; 6]) -> bool
     ensures { IsTrue result ↔ (a ≡ b) }
 {
     a == b
+}
+
+fn same_mode(a: Mode, b: Mode) -> bool
+    ensures { IsTrue result ↔ (a ≡ b) }
+{
+    a == b
+}
+
+fn same_flags(a: Flags, b: Flags) -> bool
+    ensures { IsTrue result ↔ (a ≡ b) }
+{
+    a == b
+}
+
+fn same_status(a: Ps, b: Ps) -> bool
+    ensures { IsTrue result ↔ (a ≡ b) }
+{
+    same_mode(a.mode, b.mode)
+        && same_mode(a.previous, b.previous)
+        && a.trace == b.trace
+        && same_flags(a.flags, b.flags)
+}
+
+fn same_regs(a: Regs, b: Regs) -> bool
+    ensures { IsTrue result ↔ (a ≡ b) }
+{
+    same_words(a.general, b.general)
+        && a.supervisor == b.supervisor
+        && a.user == b.user
+        && a.pc == b.pc
+        && same_status(a.ps, b.ps)
 }
 
 fn same_event(a: Event, b: Event) -> bool
