@@ -2,7 +2,7 @@
 use Rattle.std.specs.Prelude.{◌≡◌, ℕ, List, Option, Some, None, IsFalse}
 use Rattle.std.specs.FinMap as finmap
 use Rattle.bk_path.specs.Paths.{Path, path_cmp}
-use Rattle.bk_system.specs.Space.{Page, is_absent}
+use Rattle.bk_space.specs.AddrSpace.{Page, is_absent}
 use Rattle.bk_system.specs.First.{without_byte}
 use Rattle.bk_state.specs.State.{Object, Contents, Children, Words, Messages, Typed}
 

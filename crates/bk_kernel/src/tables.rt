@@ -5,7 +5,9 @@ ghost use Rattle.bk_space.specs.declared.Space.TheVariants.{I};
 ghost use Rattle.bk_state.specs.State.{find, facts_at, holds, process_of};
 ghost use Rattle.bk_state.specs.Maps.{map_values};
 ghost use Rattle.bk_state.specs.Named.{is_named, passes};
-ghost use Rattle.bk_system.specs.Space.{rights_of, rights_by, is_data, page_shown, space_of, window_of, reading, is_absent};
+ghost use Rattle.bk_space.specs.AddrSpace.{page_number, read_at, is_absent};
+ghost use Rattle.bk_space.specs.declared.Width.TheVariants.{Word};
+ghost use Rattle.bk_system.specs.Space.{rights_of, rights_by, is_data, page_shown, space_of};
 ghost use Rattle.bk_system.specs.First.{with_process, byte_at, without_byte_at, has_byte, is_some_line};
 ghost use Rattle.bk_system.specs.Slot.{all_arrived, arrived, slot_ended, subject_of, taking, with_resumed};
 ghost use Rattle.std.specs.Prelude.{map, position};
@@ -209,7 +211,7 @@ impl Tables {
     }
 
     /// The word at an address of instruction space.
-    #[tactic(auto, unfolding(bk_system::specs::Space::space_of))]
+    #[tactic(auto, unfolding(bk_system::specs::Space::space_of, bk_space::specs::AddrSpace::read_at, bk_space::specs::AddrSpace::page_at))]
     pub(crate) fn read_word(
         &self,
         subject: u8,
@@ -217,7 +219,7 @@ impl Tables {
         mode: Mode,
         address: u16,
     ) -> Result<u16, Abort>
-        ensures { result ≡ reading (space_of self.now subject windows.now (window_of mode I address)) address }
+        ensures { result ≡ read_at (space_of self.now subject windows.now) mode I Word address }
     {
         if address % 2 == 1 {
             return Err(Abort::Odd);
@@ -237,7 +239,7 @@ impl Tables {
 }
 
 fn window(mode: Mode, address: u16) -> u8
-    ensures number { result ≡ window_of mode I address }
+    ensures number { result ≡ page_number mode I address }
     ensures within { result < 32 }
 {
     let page = (address / 8192) as u8;

@@ -17,7 +17,8 @@ use Rattle.bk_system.specs.declared.first.Ending.{Ending}
 use Rattle.bk_system.specs.declared.first.Ending.TheVariants.{Ran, Calls, Faults}
 use Rattle.bk_system.specs.declared.first.Cause.{Cause}
 use Rattle.bk_system.specs.declared.script.TypedAt.{TypedAt}
-use Rattle.bk_system.specs.Space.{AddrSpace, space_of}
+use Rattle.bk_space.specs.AddrSpace.{AddrSpace}
+use Rattle.bk_system.specs.Space.{space_of}
 use Rattle.bk_system.specs.Step.{Step}
 use Rattle.bk_system.specs.First.{exec, started, executed, immediate, past_word, next_word, instruction_of, is_built, not_executed, without_byte_at, byte_out, done, sent, settled, ended, refusal, taken_by, taken, turn_of, path_in}
 use Rattle.bk_system.specs.Slot.{arrived, all_arrived, slot_ended, turns_of, slot_of, slots_of, subject_of, records_for}

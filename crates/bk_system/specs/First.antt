@@ -3,7 +3,9 @@
 -- fault stops its process.
 use Rattle.std.specs.Prelude.{ℕ, ◌+◌, ◌*◌, ◌/◌, ◌%◌, ◌^◌, Bool, true, false, not, ◌||◌, List, [], ◌∷◌, Option, Some, None, is_none, ◌==◌, nat_lt, nat_le, slice_index, slice_set, find as first, Result, Ok, Err, if◌then◌else◌}
 use Rattle.std.specs.FinMap as map
+use Rattle.bk_space.specs.AddrSpace.{AddrSpace, read_at}
 use Rattle.bk_space.specs.declared.Space.TheVariants.{I}
+use Rattle.bk_space.specs.declared.Width.TheVariants.{Word}
 use Rattle.bk_space.specs.declared.Abort.{Abort}
 use Rattle.bk_space.specs.declared.Abort.TheVariants.{Odd, NonResident, Length, ReadOnly}
 use Rattle.bk_path.specs.Paths.{Path, unpack}
@@ -25,7 +27,7 @@ use Rattle.bk_system.specs.declared.first.Ending.TheVariants.{Ran, Calls, Faults
 use Rattle.bk_system.specs.declared.first.Executed.{Executed}
 use Rattle.bk_system.specs.declared.first.Cause.{Cause}
 use Rattle.bk_system.specs.declared.first.Cause.TheVariants.{NotHeld, Empty, NoPath, NotNamed, WrongKind, NoObject}
-use Rattle.bk_system.specs.Space.{AddrSpace, window_of, reading, space_of}
+use Rattle.bk_system.specs.Space.{space_of}
 use Rattle.bk_system.specs.Step.{Step, nothing}
 
 -- ---- instructions
@@ -81,7 +83,7 @@ ran r = record { registers = r; references = 1; ending = Ran }
 
 -- the word at the program counter, in instruction space of the current mode
 abbrev pub next_word : Registers → AddrSpace → Result ℕ Abort
-next_word r space = reading (space (window_of r.status.mode I r.pc)) r.pc
+next_word r space = read_at space r.status.mode I Word r.pc
 
 -- the immediate is the word after the instruction
 abbrev pub immediate : (before now : Registers) → (destination : ℕ) → Result ℕ Abort → Executed

@@ -1,36 +1,14 @@
--- What a process sees of segments through its windows, and the answer to a reference that reads a word.
-use Rattle.std.specs.Prelude.{ℕ, ◌+◌, ◌*◌, ◌/◌, ◌%◌, Bool, true, false, List, [], Option, Some, None, ◌==◌, nat_le, length, slice_get, slice_index, Result, Ok, Err, if◌then◌else◌}
-use Rattle.bk_space.specs.declared.Mode.{Mode}
-use Rattle.bk_space.specs.declared.Mode.TheVariants.{Supervisor, User}
-use Rattle.bk_space.specs.declared.Space.{Space}
-use Rattle.bk_space.specs.declared.Space.TheVariants.{I, D}
+-- What a process sees of segments through its windows.
+use Rattle.std.specs.Prelude.{ℕ, ◌/◌, ◌%◌, Bool, true, false, List, [], Option, Some, None, ◌==◌, slice_get}
+use Rattle.bk_space.specs.AddrSpace.{AddrSpace, Page}
 use Rattle.bk_space.specs.declared.Rights.{Rights}
 use Rattle.bk_space.specs.declared.Rights.TheVariants as rights
-use Rattle.bk_space.specs.declared.Abort.{Abort}
-use Rattle.bk_space.specs.declared.Abort.TheVariants.{Odd, NonResident, Length}
 use Rattle.bk_path.specs.Paths.{Path}
 use Rattle.bk_object.specs.Modes.{Read, Execute, Write}
 use Rattle.bk_state.specs.State.{Contents, Children, Words, Messages, Typed, Object, State, find, holds}
 
--- a page: what may be done in it, and its words
-pub record Page : Type 0 where
-  pub rights : Rights
-  pub words : List ℕ
-
 abbrev pub no_page : Page
 no_page = record { rights = rights.None; words = [] }
-
--- the number of a window: 16 for user, 8 for data space, and the page
-abbrev pub mode_part : Mode → ℕ
-mode_part Supervisor = 0
-mode_part User = 16
-
-abbrev pub space_part : Space → ℕ
-space_part I = 0
-space_part D = 8
-
-abbrev pub window_of : Mode → Space → (address : ℕ) → ℕ
-window_of mode space address = mode_part mode + space_part space + address / 8192
 
 -- instruction space is read by execute access; data space is written by write access, and read by read access alone
 abbrev pub rights_by : (is_data reads executes writes : Bool) → Rights
@@ -70,21 +48,5 @@ page_shown v s window (Some None) = no_page
 page_shown v s window None = no_page
 
 -- the page of each window of a subject
-abbrev pub AddrSpace : Type 0
-AddrSpace = ℕ → Page
-
 unfoldable pub space_of : State → ℕ → List (Option Path) → AddrSpace
 space_of v s windows window = page_shown v s window (slice_get windows window)
-
-abbrev pub is_absent : Rights → Bool
-is_absent rights.None = true
-is_absent rights.Read = false
-is_absent rights.Write = false
-
--- a reference that reads a word: odd, non-resident and beyond the length are tested in this order
-abbrev pub reading : Page → (address : ℕ) → Result ℕ Abort
-reading page address =
-    if address % 2 == 1 then Err Odd else (
-    if is_absent page.rights then Err NonResident else (
-    if nat_le (2 * length page.words) (address % 8192) then Err Length else
-    Ok (slice_index page.words (address % 8192 / 2))))
