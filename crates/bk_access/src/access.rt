@@ -1,0 +1,86 @@
+// The current access set, by slots and subjects.
+
+ghost use Rattle.std.specs.Prelude.{◌≡◌, ◌<◌, ℕ, IfOk};
+ghost use Rattle.bk_object.specs.Modes.{no_modes};
+ghost use Rattle.bk_access.specs.Held.{added, cleared, modes_at, nothing_held, removed};
+
+use bk_base::NoMemory;
+use bk_object::{Modes, Row, Slot};
+use std::alloc::Global;
+use std::marker::Model;
+
+/// The current access set (MTR-2997): which subject holds which object by which modes now. An object is named by its
+/// slot in the table of objects, a subject by its number, 0 to 31.
+///
+/// A clause sees the map from subject and slot to modes, and the number that all slots are below.
+#[derive(Drop)]
+pub struct Access {
+    rows: Vec<Row>,
+}
+
+impl Model for Access {
+    ghost use Rattle.bk_access.specs.Held.{Held};
+
+    ghost Value = { Held };
+
+    ghost use Rattle.std.specs.Coded.{codes};
+    ghost use Rattle.std.specs.FinMap as map;
+
+    ghost coded = { Prim.hlevel (codes, map.code) };
+
+    ghost use Rattle.bk_access.specs.Table.{held_in, HasRows};
+
+    ghost view = { held_in };
+
+    ghost invariant = { HasRows };
+}
+
+impl Access {
+    /// The set in which no subject holds anything, for slots below the number. All memory is taken here; `NoMemory`
+    /// comes where the host has no more.
+    pub fn reserve(alloc: Global, slots: u16) -> Result<Access, NoMemory>
+        ensures { IfOk result (λ access. access ≡ nothing_held slots) }
+    {
+        let rows = vec![in alloc; Row::new(); slots as usize]?;
+        Ok(Access { rows })
+    }
+
+    /// The modes by which the subject, 0 to 31, holds the slot's object; none at first. Nothing is held for other
+    /// subjects or at other slots than those of `reserve`.
+    pub fn modes(&self, subject: u8, slot: Slot) -> Modes
+        requires subject { subject < 32 }
+        requires slot { slot.n < self.now.slots }
+        ensures value { result ≡ modes_at self.now subject slot.n }
+        ensures four { result.0 < 16 }
+        ensures outside { (s k : ℕ) → ¬ ((s < 32) × (k < self.now.slots)) → modes_at self.now s k ≡ no_modes }
+    {
+        self.rows[slot.n as usize].get(subject)
+    }
+
+    /// The subject, 0 to 31, holds the slot's object by these modes too. All else that is held stays.
+    pub fn add(&mut self, subject: u8, slot: Slot, modes: Modes)
+        requires subject { subject < 32 }
+        requires slot { slot.n < self.old.slots }
+        ensures { self.new ≡ added subject slot.n modes self.old }
+    {
+        self.rows[slot.n as usize].add(subject, modes);
+    }
+
+    /// The subject, 0 to 31, no longer holds the slot's object by these modes; of modes that it doesn't hold nothing
+    /// changes. All else that is held stays.
+    pub fn remove(&mut self, subject: u8, slot: Slot, modes: Modes)
+        requires subject { subject < 32 }
+        requires slot { slot.n < self.old.slots }
+        ensures { self.new ≡ removed subject slot.n modes self.old }
+    {
+        self.rows[slot.n as usize].remove(subject, modes);
+    }
+
+    /// No subject holds the slot's object by any mode any more. What is held of all other objects stays.
+    pub fn clear_object(&mut self, slot: Slot)
+        requires { slot.n < self.old.slots }
+        ensures { self.new ≡ cleared slot.n self.old }
+    {
+        self.rows[slot.n as usize] = Row::new();
+    }
+}
