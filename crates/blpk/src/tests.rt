@@ -40,6 +40,8 @@ const NO_IMAGE: &[u8] = b"image refused at 0: first\n";
 
 const NO_SCRIPT: &[u8] = b"script refused at line 0: first\n";
 
+const WRONG_WORDS: [&[&str]; 5] = [&["run", "x"], &[], &["RUN"], &["--help"], &["build"]];
+
 /// How the outside of a call behaves: the bytes of a read, the reads that fail, the room of the output, the bytes of a write,
 /// the writes that fail, and the room of the error output.
 #[derive(Clone, Copy)]
@@ -164,13 +166,7 @@ fn stops_at_what_is_not_built(rt: HostRuntime) -> Result<(), Fail> {
 #[test]
 fn refuses_wrong_words(rt: HostRuntime) -> Result<(), Fail> {
     let input = sample(rt.alloc(), TYPED)?;
-    for words in [
-        ["run", "x"].as_slice(),
-        [].as_slice(),
-        ["RUN"].as_slice(),
-        ["--help"].as_slice(),
-        ["build"].as_slice(),
-    ] {
+    for words in WRONG_WORDS {
         assert!(rt;
             gives(
                 rt.alloc(),
@@ -219,13 +215,14 @@ fn refuses_what_is_no_first_image(rt: HostRuntime) -> Result<(), Fail> {
         );
     }
     // The image is cut short.
-    let input = sample(alloc, b"")?;
     for length in [0, 1, 16, 170, 289] {
+        let mut input = sample(alloc, b"")?;
+        input.truncate(length);
         assert!(rt;
             gives(
                 rt.alloc(),
                 &["run"],
-                &input[..length],
+                &input,
                 AMPLE,
                 (Status::ImageRefused, b"", NO_IMAGE)
             )?
