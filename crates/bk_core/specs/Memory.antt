@@ -1,5 +1,5 @@
 -- The physical words of core.
-use Rattle.std.specs.Prelude.{◌≡◌, ℕ, ◌+◌, ◌*◌, ◌/◌, ◌%◌, ◌==◌, if◌then◌else◌, List, length, take, drop, replicate, slice_index_or, slice_set}
+use Rattle.std.specs.Prelude.{◌≡◌, ℕ, ◌+◌, ◌*◌, ◌/◌, ◌%◌, ◌≤◌, ◌⊎◌, ◌==◌, if◌then◌else◌, List, length, take, drop, replicate, slice_index_or, slice_set}
 use lib.Seq.{paste}
 
 -- 3,968 blocks of 32 words
@@ -10,6 +10,10 @@ pub record Memory : Type 0 where
 -- the words of so many blocks from a first one on
 abbrev pub block_words : List ℕ → (first count : ℕ) → List ℕ
 block_words words first count = take (32 * count) (drop (32 * first) words)
+
+-- all blocks but so many from a first one on keep their words
+pub record KeepsOthers (first count : ℕ) (old new : List ℕ) : Type 0 where
+  pub others : (at n : ℕ) → (at + n ≤ first) ⊎ (first + count ≤ at) → block_words new at n ≡ block_words old at n
 
 -- the word that holds the byte at an address
 abbrev pub word_at : List ℕ → (addr : ℕ) → ℕ

@@ -26,7 +26,7 @@ impl Model for Core {
 }
 
 impl Core {
-    ghost use Rattle.bk_core.specs.Memory.{word_at, byte_at, with_word, with_byte, zeroed, slid};
+    ghost use Rattle.bk_core.specs.Memory.{block_words, KeepsOthers, word_at, byte_at, with_word, with_byte, zeroed, slid};
 
     /// A core in which each word is zero, or NoMemory.
     pub fn reserve(alloc: Global) -> Result<Core, NoMemory>
@@ -84,7 +84,9 @@ impl Core {
     /// All words of so many blocks from a first one on become zero; all others stay.
     pub fn zero(&mut self, first: u32, count: u32)
         requires inside { first + count ≤ 3968 }
-        ensures { self.new.words ≡ zeroed self.old.words first count }
+        ensures words { self.new.words ≡ zeroed self.old.words first count }
+        ensures zero { block_words self.new.words first count ≡ replicate (32 * count) 0 }
+        ensures others { KeepsOthers first count self.old.words self.new.words }
     {
         let first = first as usize * 32;
         let count = count as usize * 32;
@@ -96,7 +98,9 @@ impl Core {
     pub fn slide(&mut self, from: u32, to: u32, count: u32)
         requires down { to ≤ from }
         requires inside { from + count ≤ 3968 }
-        ensures { self.new.words ≡ slid self.old.words from to count }
+        ensures words { self.new.words ≡ slid self.old.words from to count }
+        ensures there { block_words self.new.words to count ≡ block_words self.old.words from count }
+        ensures others { KeepsOthers to count self.old.words self.new.words }
     {
         let from = from as usize * 32;
         let to = to as usize * 32;
