@@ -1,0 +1,9 @@
+pub mod MapValues
+pub mod Totals
+pub mod Distinct
+pub mod Stacked
+pub mod WordsKept
+pub mod Entries
+pub mod Placed
+pub mod Forgotten
+pub mod Compacted

@@ -1,0 +1,70 @@
+-- Where segments stand in core, and the words there.
+use Rattle.std.specs.Prelude.{◌≡◌, ℕ, ◌+◌, ◌-◌, ◌*◌, ◌≤◌, ◌≢◌, ◌⊎◌, nat_lt, if◌then◌else◌, List, take, drop, sum_by, Some, refl}
+use Rattle.std.specs.Coded.{Coded, code_by, coded×, coded_ℕ}
+use Rattle.std.specs.FinMap as finite
+use Rattle.std.specs.Ordering.{nat_cmp}
+use Rattle.bk_core.specs.Memory.{block_words}
+use Rattle.bk_frames.specs.Maps.{map_values}
+
+-- the first block, and how many
+pub record Extent : Type 0 where
+  pub first : ℕ
+  pub blocks : ℕ
+
+abbrev pub extent_code : Coded Extent
+extent_code = code_by (ℕ × ℕ) (coded× coded_ℕ coded_ℕ) (λ e. (e.first, e.blocks)) (λ p. record { first = p.0; blocks = p.1 }) (λ _. refl)
+
+-- the frames are so many blocks from the first on; extents has where the segment of each slot stands
+pub record Standing : Type 0 where
+  pub first : ℕ
+  pub blocks : ℕ
+  pub slots : ℕ
+  pub extents : finite.FinMap nat_cmp Extent
+
+abbrev pub standing_code : Coded Standing
+standing_code = code_by (ℕ × (ℕ × (ℕ × finite.FinMap nat_cmp Extent))) (coded× coded_ℕ (coded× coded_ℕ (coded× coded_ℕ (finite.code coded_ℕ extent_code)))) (λ s. (s.first, (s.blocks, (s.slots, s.extents)))) (λ p. record { first = p.0; blocks = p.1.0; slots = p.1.1.0; extents = p.1.1.1 }) (λ _. refl)
+
+-- the words of a segment, which are those of its blocks
+abbrev pub words_at : List ℕ → Extent → List ℕ
+words_at words extent = block_words words extent.first extent.blocks
+
+-- the words of the segment of each slot
+abbrev pub segments_of : Standing → List ℕ → finite.FinMap nat_cmp (List ℕ)
+segments_of frames words = map_values (words_at words) frames.extents
+
+-- the blocks of the segment of each slot
+abbrev pub sizes_of : Standing → finite.FinMap nat_cmp ℕ
+sizes_of frames = map_values (λ e. e.blocks) frames.extents
+
+-- how many blocks are taken, and how many are free
+abbrev pub taken_in : Standing → ℕ
+taken_in frames = sum_by (λ e. e.1.blocks) (finite.entries frames.extents)
+
+abbrev pub free_in : Standing → ℕ
+free_in frames = frames.blocks - taken_in frames
+
+-- the blocks of the segments that stand below a block
+abbrev pub blocks_below : Standing → ℕ → ℕ
+blocks_below frames block = sum_by (λ e. if nat_lt e.1.first block then e.1.blocks else 0) (finite.entries frames.extents)
+
+-- where a segment stands once there is no gap: behind those that stood below it
+abbrev pub moved_down : Standing → Extent → Extent
+moved_down frames extent = record { first = frames.first + blocks_below frames extent.first; blocks = extent.blocks }
+
+-- the frames are over the same blocks, for the same slots
+abbrev pub KeepsRoom : (old new : Standing) → Type 0
+KeepsRoom old new = (new.first ≡ old.first) × (new.blocks ≡ old.blocks) × (new.slots ≡ old.slots)
+
+-- the words of core below the frames and above them are the same
+pub record SameOutside (frames : Standing) (old new : List ℕ) : Type 0 where
+  pub below : take (32 * frames.first) new ≡ take (32 * frames.first) old
+  pub above : drop (32 * (frames.first + frames.blocks)) new ≡ drop (32 * (frames.first + frames.blocks)) old
+
+-- two extents have no block in common
+abbrev pub AreApart : Extent → Extent → Type 0
+AreApart e f = (e.first + e.blocks ≤ f.first) ⊎ (f.first + f.blocks ≤ e.first)
+
+-- each segment stands within the frames, and no two have a block in common
+pub record IsApart (frames : Standing) : Type 0 where
+  pub within : (s : ℕ) (e : Extent) → finite.get frames.extents s ≡ Some e → (frames.first ≤ e.first) × (e.first + e.blocks ≤ frames.first + frames.blocks)
+  pub apart : (s t : ℕ) (e f : Extent) → finite.get frames.extents s ≡ Some e → finite.get frames.extents t ≡ Some f → s ≢ t → AreApart e f
