@@ -618,5 +618,8 @@ fn refers_by_rights_and_length(rt: HostRuntime) -> Result<(), Fail> {
     assert_eq!(rt; step(&mut regs, &mut bus), Event::Ran);
     assert_eq!(rt; step(&mut regs, &mut bus), Event::Fault(Cause::NonResident));
     assert_eq!(rt; (regs.pc, bus.references()), (0, 2));
+    regs.pc = 1;
+    assert_eq!(rt; step(&mut regs, &mut bus), Event::Fault(Cause::Odd));
+    assert_eq!(rt; (regs.pc, bus.references()), (1, 3));
     Ok(())
 }
