@@ -13,7 +13,10 @@ use Rattle.bk_path.specs.Orders.{path_total, path_apart, same_path, is_same-itse
 use Rattle.bk_quota.specs.Charges.{quota_in}
 use Rattle.bk_tree.specs.declared.place.Placed.{Placed}
 use Rattle.bk_tree.specs.declared.place.Object.{Object}
-use Rattle.bk_tree.specs.Objects.{CanGo, Objects, IsAt, begun, without}
+use Rattle.bk_tree.specs.Objects.{CanGo, HasNoChild, Objects, IsAt, begun, without}
+use Rattle.bk_tree.specs.Kept.{IsKept}
+use Rattle.bk_tree.proofs.Smaller.{bare}
+use Rattle.bk_tree.proofs.Keeping.{begun-kept, kept-row, kept-without}
 use Rattle.bk_tree.specs.Places.{entries_from, tree_of, IsApart, IsTree, IsRooted}
 use Rattle.bk_tree.proofs.Found.{some_same, tied_path, tied-itself, stands, is_there}
 
@@ -67,7 +70,7 @@ elsewhere old new k old_apart new_apart others q not_old not_new = same_option (
         by (inl e) at = absurd (not_old a.facts (ap (slice_get old) (sym e) ∙ at))
         by (inr n) at = is_there new new_apart a.slot (record { path = q; facts = a.facts }) (others a.slot n ∙ at)
 
-held_path : (p q : Path) (f g : Facts) → Some (held p f) ≡ Some (held q g) → p ≡ q
+pub held_path : (p q : Path) (f g : Facts) → Some (held p f) ≡ Some (held q g) → p ≡ q
 held_path p q f g e = ap (λ (x : Object). x.path) (some_same (record { path = p; facts = f }) (record { path = q; facts = g }) (some_same (held p f) (held q g) e))
 
 -- the object at a place has other facts now
@@ -116,6 +119,7 @@ begun-tree slots root some most kind quota = record {
   apart = λ i j a b hi hj same. by i j a b (same_or_not i 0) (same_or_not j 0) hi hj;
   rooted = (root, record { first = set-same (replicate slots None) 0 (held [] root) (rw long (omega (arith, some))); kind = kind; quota = sym quota ∙ sym whole });
   short = rw whole most;
+  kept = subst IsKept (sym (begun-places slots root some)) (begun-kept root (omega (arith, quota, some)));
 }
   where
     long : length (replicate {A = Option Object} slots None) ≡ slots
@@ -129,7 +133,7 @@ begun-tree slots root some most kind quota = record {
     by i j a b (inr n) f hi hj = absurd (none_held slots i a (sym (set-other (replicate slots None) 0 i (held [] root) n) ∙ hi))
     by i j a b (inl e) (inr n) hi hj = absurd (none_held slots j b (sym (set-other (replicate slots None) 0 j (held [] root) n) ∙ hj))
 
-module _ (places : List (Option Object)) (tree : IsTree places) (k : ℕ) (p : Path) (f g : Facts) (at : slice_get places k ≡ Some (held p f)) (kind : g.kind ≡ f.kind) (quota : g.quota ≡ f.quota) where
+module _ (places : List (Option Object)) (tree : IsTree places) (k : ℕ) (p : Path) (f g : Facts) (at : slice_get places k ≡ Some (held p f)) (same : bare g ≡ bare f) where
   abbrev changed : List (Option Object)
   changed = set places k (held p g)
 
@@ -139,6 +143,7 @@ module _ (places : List (Option Object)) (tree : IsTree places) (k : ℕ) (p : P
     apart = apart-facts places k p f g tree.apart lt at;
     rooted = by (same_or_not 0 k);
     short = rw (length-set places k (held p g)) tree.short;
+    kept = subst IsKept (sym (tree_of-facts places k p f g tree.apart lt at)) (kept-row (tree_of places) p (record { slot = k; facts = f }) (record { slot = k; facts = g }) tree.kept (is_there places tree.apart k (record { path = p; facts = f }) at) same);
   }
     where
       root : Facts
@@ -151,12 +156,12 @@ module _ (places : List (Option Object)) (tree : IsTree places) (k : ℕ) (p : P
       by (inr n) = (root, record { first = set-other places k 0 (held p g) n ∙ is.first; kind = is.kind; quota = is.quota ∙ sym (length-set places k (held p g)) })
       by (inl e) =
           let both = sym is.first ∙ ap (slice_get places) e ∙ at in
-          let same : root ≡ f = ap (λ (o : Object). o.facts) (some_same (record { path = []; facts = root }) (record { path = p; facts = f }) (some_same (held [] root) (held p f) both)) in (
+          let one : root ≡ f = ap (λ (o : Object). o.facts) (some_same (record { path = []; facts = root }) (record { path = p; facts = f }) (some_same (held [] root) (held p f) both)) in (
             g,
             record {
               first = ap (slice_get changed) e ∙ set-same places k (held p g) lt ∙ ap (λ r. Some (held r g)) (sym (held_path [] p root f both));
-              kind = ap is_directory kind ∙ ap (λ (x : Facts). is_directory x.kind) (sym same) ∙ is.kind;
-              quota = quota ∙ ap (λ (x : Facts). x.quota) (sym same) ∙ is.quota ∙ sym (length-set places k (held p g));
+              kind = (λ i. is_directory ((same i).kind)) ∙ ap (λ (x : Facts). is_directory x.kind) (sym one) ∙ is.kind;
+              quota = (λ i. (same i).quota) ∙ ap (λ (x : Facts). x.quota) (sym one) ∙ is.quota ∙ sym (length-set places k (held p g));
             },
           )
 
@@ -171,7 +176,7 @@ module _ (places seen new : List (Option Object)) (tree : IsTree places) (m : Ob
   within = slice_get_within places k (held a.path a.facts) at
 
   pub row-tree : IsTree new
-  row-tree = rw new_is (tree-facts places tree k a.path a.facts (record a.facts { row = row }) at refl refl within)
+  row-tree = rw new_is (tree-facts places tree k a.path a.facts (record a.facts { row = row }) at refl within)
 
   pub row-map : (path : Path) (facts : Facts) → IsAt m path k facts → tree_of new ≡ insert m path (record { slot = k; facts = record facts { row = row } })
   row-map path facts h =
@@ -213,8 +218,8 @@ module _ (places : List (Option Object)) (tree : IsTree places) (k : ℕ) (p : P
   tree_of-cleared = same_map path_total path_apart _ _ (λ q.
       kept q (is_same q p) refl ∙ sym (get-retain_keys (tree_of places) (λ r. not (is_same r p)) q (λ x same. ap (λ r. not (is_same r p)) (sym (path_apart q x same)))))
 
-  pub tree-cleared : p ≢ [] → IsTree cleared
-  tree-cleared below = record {
+  pub tree-cleared : p ≢ [] → HasNoChild (tree_of places) p → IsTree cleared
+  tree-cleared below childless = record {
     apart = apart-cleared;
     rooted = (
       tree.rooted.0,
@@ -225,6 +230,7 @@ module _ (places : List (Option Object)) (tree : IsTree places) (k : ℕ) (p : P
       },
     );
     short = rw (length-set places k None) tree.short;
+    kept = subst IsKept (sym tree_of-cleared) (kept-without (tree_of places) p tree.kept childless);
   }
     where
       not_root : 0 ≢ k
@@ -239,7 +245,7 @@ module _ (places new : List (Option Object)) (tree : IsTree places) (m : Objects
   leaf_within = slice_get_within places k (held leaf.path leaf.facts) at_leaf
 
   pub leaf-tree : new ≡ set places k None → IsTree new
-  leaf-tree is = rw is (tree-cleared places tree k leaf.path leaf.facts leaf_within at_leaf leaf.below_root)
+  leaf-tree is = rw is (tree-cleared places tree k leaf.path leaf.facts leaf_within at_leaf leaf.below_root (subst (λ t. HasNoChild t leaf.path) (sym view) leaf.childless))
 
   pub leaf-map : new ≡ set places k None → (path : Path) (facts : Facts) → IsAt m path k facts → tree_of new ≡ without m path
   leaf-map is path facts h =

@@ -1,15 +1,16 @@
 -- What is looked up in the map of a list of places is what stands at the place.
 use Rattle.std.proofs.Common.{◌≡◌, ℕ, zero, suc, ◌+◌, ◌<◌, ◌≤◌, Bool, true, false, cond, List, [], ◌∷◌, length, Option, Some, None, refl, sym, ap, ◌∙◌, subst, arith, is_eq, set}
-use Rattle.std.specs.Prelude.{slice_get, unwrap_or, is_some, option_map, IfSome, IsNone, ◌↔◌}
+use Rattle.std.specs.Prelude.{slice_get, unwrap_or, is_some, option_map, IfSome, IsNone, IsSome, ◌↔◌}
 use Rattle.std.specs.Ordering.{eq_by_cmp}
 use Rattle.std.specs.Cmp.{tied_itself}
 use Rattle.std.specs.FinMap.{find, get, get-from_entries, from_entries}
 use Rattle.bk_object.specs.declared.Facts.{Facts}
+use Rattle.bk_object.specs.declared.Slot.{Slot}
 use Rattle.bk_path.specs.Paths.{Path, path_cmp, is_same}
 use Rattle.bk_path.specs.Orders.{path_total, path_apart, same_path, is_same-itself, ties-same}
 use Rattle.bk_tree.specs.declared.place.Placed.{Placed}
 use Rattle.bk_tree.specs.declared.place.Object.{Object}
-use Rattle.bk_tree.specs.Objects.{Objects, HasSlot, IsAt, slot_of}
+use Rattle.bk_tree.specs.Objects.{Objects, HasSlot, IsAt, facts_of, slot_of}
 use Rattle.bk_tree.specs.Places.{entries_from, tree_of, is_of, IsApart}
 
 pub some_same : {A : Type 0} (x y : A) → Some x ≡ Some y → x ≡ y
@@ -99,3 +100,42 @@ slot_found m q = by (get m q) refl
 pub none_found : (o : Option Placed) → IsNone (option_map slot_of o) ↔ IsNone o
 none_found None = (λ h. h, λ h. h)
 none_found (Some a) = (λ h. h, λ h. h)
+
+-- the slot that a search gives has the object
+pub found_slot : (places : List (Option Object)) (path : Path) (slot : Slot) → Some slot ≡ option_map slot_of (find path_cmp path (entries_from 0 places)) →
+    (a : Placed) × (find path_cmp path (entries_from 0 places) ≡ Some a) × (slice_get places slot.n ≡ Some (Some (record { path = path; facts = a.facts })))
+found_slot places path slot h = by (find path_cmp path (entries_from 0 places)) refl h
+  where
+    by : (o : Option Placed) → find path_cmp path (entries_from 0 places) ≡ o → Some slot ≡ option_map slot_of o →
+        (a : Placed) × (find path_cmp path (entries_from 0 places) ≡ Some a) × (slice_get places slot.n ≡ Some (Some (record { path = path; facts = a.facts })))
+    by None is h = cc
+    by (Some a) is h =
+        let (k, slot_is, there) = found-at 0 places path a is in
+        let one : slot.n ≡ a.slot = ap (λ (s : Slot). s.n) (some_same slot (slot_of a) h) in
+        let same : k ≡ slot.n = omega (arith, slot_is, one) in
+        (a, is, ap (slice_get places) (sym same) ∙ there)
+
+pub facts_some : (places : List (Option Object)) (path : Path) (slot : Slot) (x : Object) → Some slot ≡ option_map slot_of (find path_cmp path (entries_from 0 places)) →
+    slice_get places slot.n ≡ Some (Some x) → Some x.facts ≡ option_map facts_of (get (tree_of places) path)
+facts_some places path slot x found at =
+    let (a, is, there) = found_slot places path slot found in
+    let one : x.facts ≡ a.facts = ap (λ (o : Object). o.facts) (some_same x (record { path = path; facts = a.facts }) (some_same (Some x) (Some (record { path = path; facts = a.facts })) (sym at ∙ there))) in
+    ap Some one ∙ ap (option_map facts_of) (sym (get-from_entries path_total (entries_from 0 places) path ∙ is))
+
+pub facts_none : (places : List (Option Object)) (path : Path) → None ≡ option_map slot_of (find path_cmp path (entries_from 0 places)) → None ≡ option_map facts_of (get (tree_of places) path)
+facts_none places path found = by (find path_cmp path (entries_from 0 places)) found ∙ ap (option_map facts_of) (sym (get-from_entries path_total (entries_from 0 places) path))
+  where
+    by : (o : Option Placed) → None ≡ option_map slot_of o → None ≡ option_map facts_of o
+    by None h = refl
+    by (Some a) h = cc
+
+module _ (places seen : List (Option Object)) (m : Objects) (slot : ℕ) (x : Object) (same : seen ≡ places) (view : tree_of places ≡ m) (at : slice_get seen slot ≡ Some (Some x)) where
+  pub path_there : (path : Path) (facts : Facts) → IsAt m path slot facts → x.path ≡ path
+  path_there path facts h =
+      let both = sym at ∙ ap (λ xs. slice_get xs slot) same ∙ stands places path slot facts (ap (λ t. get t path) view ∙ h) in
+      ap (λ (o : Object). o.path) (some_same x (record { path = path; facts = facts }) (some_same (Some x) (Some (record { path = path; facts = facts })) both))
+
+  pub some_there : IsApart places → (other : List (Option Object)) → other ≡ places → IsSome (get (tree_of other) x.path)
+  some_there apart other alike =
+      let there : get (tree_of other) x.path ≡ Some (placed_at slot x) = ap (λ xs. get (tree_of xs) x.path) alike ∙ is_there places apart slot x (ap (λ xs. slice_get xs slot) (sym same) ∙ at) in
+      subst IsSome (sym there) refl

@@ -9,6 +9,9 @@ use Rattle.bk_tree.specs.declared.place.Placed.{Placed}
 abbrev pub Objects : Type 0
 Objects = map.FinMap path_cmp Placed
 
+abbrev pub facts_of : Placed → Facts
+facts_of placed = placed.facts
+
 abbrev pub slot_of : Placed → Slot
 slot_of placed = record { n = placed.slot }
 

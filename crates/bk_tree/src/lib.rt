@@ -6,8 +6,9 @@
 //! Stands on: `bk_base`, `bk_object`, `bk_path`, `bk_quota`.
 #![tactic(auto)]
 
+mod cells;
 mod place;
 mod tree;
 
 pub use place::Placed;
-pub use tree::Tree;
+pub use tree::{Tree, TreeNo};

@@ -1,11 +1,11 @@
 // The list of places, and what is looked up in it.
 
-ghost use Rattle.std.specs.Prelude.{◌≡◌, ◌≤◌, ◌<◌, length, option_map, slice_get, slice_set, IfNone, IfOk, IfSome, None, Some, replicate};
+ghost use Rattle.std.specs.Prelude.{◌≡◌, ◌≤◌, ◌<◌, ◌↔◌, IsTrue, length, option_map, slice_get, slice_set, IfNone, IfOk, IfSome, None, Some, replicate};
 ghost use Rattle.std.specs.FinMap as map;
 ghost use Rattle.bk_path.specs.Paths.{path_cmp};
 ghost use Rattle.bk_tree.specs.Objects.{slot_of};
 ghost use Rattle.bk_tree.specs.declared.place.Object.{Object as Held};
-ghost use Rattle.bk_tree.specs.Places.{entries_from, is_of, rank_at, rank_in, IsHighest};
+ghost use Rattle.bk_tree.specs.Places.{entries_from, is_of, rank_at, rank_in, IsFull, IsHighest};
 
 use bk_base::NoMemory;
 use bk_object::{Facts, Row, Slot};
@@ -61,6 +61,27 @@ fn is_held_by(place: &Option<Object>, path: Path) -> bool
         Some(object) => path == object.path,
         None => false,
     }
+}
+
+// The first free place.
+pub(crate) fn first_free(places: &[Option<Object>]) -> Option<Slot>
+    requires { length places.now ≤ 3904 }
+    ensures some { IfSome result (λ slot. slice_get places.now slot.n ≡ Some None) }
+    ensures none { IfNone result (IsFull places.now (length places.now)) }
+{
+    for place in 0..places.len() {
+        if is_free(places, place) {
+            return Some(Slot { n: place as u16 });
+        }
+    }
+    None
+}
+
+fn is_free(places: &[Option<Object>], place: usize) -> bool
+    requires { place < length places.now }
+    ensures { IsTrue result ↔ (slice_get places.now place ≡ Some None) }
+{
+    places[place].is_none()
 }
 
 // The object that has the place.

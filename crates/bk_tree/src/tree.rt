@@ -1,19 +1,32 @@
 // The tree: the map from paths to objects.
 
-ghost use Rattle.std.specs.Prelude.{◌≡◌, ◌<◌, ℕ, ◌≤◌, ◌↔◌, [], true, IfOk, IfSome, IsNone, option_map};
+ghost use Rattle.std.specs.Prelude.{◌≡◌, ◌≢◌, ◌<◌, IfErr, ℕ, ◌≤◌, ◌↔◌, [], true, IfOk, IfSome, IsNone, option_map};
 ghost use Rattle.std.specs.FinMap as map;
 ghost use Rattle.bk_object.specs.declared.Facts.{Facts as FactsValue};
 ghost use Rattle.bk_object.specs.Kinds.{is_directory};
-ghost use Rattle.bk_path.specs.Paths.{Path as PathValue};
-ghost use Rattle.bk_quota.specs.Charges.{quota_in};
-ghost use Rattle.bk_tree.specs.Objects.{CanGo, HasNone, HasSlot, IsAt, IsLeafOf, begun, slot_of, without};
+ghost use Rattle.bk_path.specs.Paths.{Path as PathValue, parent};
+ghost use Rattle.bk_quota.specs.Charges.{governing_in, level_in, quota_in};
+ghost use Rattle.bk_tree.specs.Kept.{cell_in, Fits, HasDirectory, IsFit};
+ghost use Rattle.bk_tree.specs.Refused.{Refuses};
+ghost use Rattle.bk_tree.specs.Objects.{facts_of, CanGo, HasNone, HasSlot, IsAt, IsLeafOf, begun, slot_of, without};
 
-use crate::place::{Object, deepest, free_places, object_at, put, scan, with_row};
+use crate::cells::{governing_cell, has_room, is_taken};
+use crate::place::{Object, deepest, first_free, free_places, object_at, put, scan, with_row};
 use bk_base::NoMemory;
 use bk_object::{Facts, Row, Slot};
 use bk_path::Path;
+use bk_quota::Cell;
 use std::alloc::Global;
 use std::marker::Model;
+
+/// Why no object is created.
+#[derive(Clone, Copy, PartialEq, Eq, Debug)]
+pub enum TreeNo {
+    /// An object is at the path.
+    Taken,
+    /// The charge doesn't fit the cell that governs the parent.
+    Quota,
+}
 
 /// A map from paths to objects, each of which has a slot of its own.
 #[derive(Drop)]
@@ -83,6 +96,37 @@ impl Tree {
         let object = object_at(&self.places, slot);
         put(&mut self.places, slot, Some(with_row(object, row)));
     }
+    /// An object with these facts is at the path from now on, at a slot that no object had. Taken goes before Quota, and
+    /// where there is no object created nothing changes.
+    pub fn create(&mut self, path: Path, facts: Facts) -> Result<Slot, TreeNo>
+        requires below_root { path ≢ [] }
+        requires parent { HasDirectory self.old (parent path) }
+        requires fit { IsFit facts (level_in facts_of self.old (parent path)) }
+        ensures ok { IfOk result (λ slot. IsNone (map.get self.old path) × Fits self.old path facts ×
+            (self.new ≡ map.insert self.old path (record { slot = slot.n; facts = facts }))) }
+        ensures err { IfErr result (λ no. Refuses self.old path facts no × (self.new ≡ self.old)) }
+    {
+        if is_taken(&self.places, path) {
+            return Err(TreeNo::Taken);
+        }
+        if has_room(&self.places, path, &facts) {
+            let slot = first_free(&self.places).unwrap();
+            put(&mut self.places, slot, Some(Object { path, facts }));
+            Ok(slot)
+        } else {
+            Err(TreeNo::Quota)
+        }
+    }
+
+    /// The cell that governs the directory: its own where it has one, else that of its nearest ancestor with a cell.
+    pub fn cell(&self, directory: Slot) -> Cell
+        requires { HasSlot self.now directory.n }
+        ensures { (path : PathValue) (facts : FactsValue) → IsAt self.now path directory.n facts →
+            result ≡ cell_in self.now (governing_in facts_of self.now path) }
+    {
+        governing_cell(&self.places, object_at(&self.places, directory).path)
+    }
+
     /// The slot of an inferior of the path without children: None exactly where no object is at the path or below it.
     pub fn next_leaf(&self, of: Path) -> Option<Slot>
         ensures some { IfSome result (λ slot. IsLeafOf self.now of slot.n) }
