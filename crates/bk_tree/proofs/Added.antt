@@ -1,20 +1,18 @@
 -- A map with one object more: what is in use rises by its charge, in the cell that governs its parent.
-use Rattle.std.proofs.Common.{◌≡◌, ◌≢◌, ℕ, zero, suc, ◌+◌, ◌<◌, ◌≤◌, Bool, true, false, cond, not, ◌&&◌, ◌||◌, List, [], ◌∷◌, length, Option, Some, None, refl, sym, ap, ◌∙◌, subst, arith, ◌==◌}
-use Rattle.std.specs.Prelude.{unwrap_or, option_map, if◌then◌else◌}
-use Rattle.std.specs.FinMap.{FinMap, get, insert, get-insert, entries}
+use Rattle.std.proofs.Common.{◌≡◌, ◌≢◌, ℕ, ◌+◌, ◌≤◌, Bool, true, false, cond, List, [], ◌∷◌, Option, Some, None, refl, sym, ap, ◌∙◌, subst, arith}
+use Rattle.std.specs.Prelude.{if◌then◌else◌}
+use Rattle.std.specs.FinMap.{get, insert, get-insert, entries}
 use Rattle.std.specs.Ordering.{eq_by_cmp}
 use Rattle.std.proofs.lemmas.List.Sums.{sum_by-cons}
-use Rattle.bk_object.specs.declared.Facts.{Facts}
-use Rattle.bk_object.specs.Kinds.{is_directory}
-use Rattle.bk_path.specs.Paths.{Path, path_cmp, is_root, is_same, parent}
-use Rattle.bk_path.specs.Orders.{path_total, path_apart, same_path, is_same-itself}
+use Rattle.bk_path.specs.Paths.{Path, path_cmp, is_same, parent}
+use Rattle.bk_path.specs.Orders.{path_total, path_apart, same_path}
 use Rattle.bk_quota.specs.Charges.{charge_of, level_in, quota_in, is_upgraded_in, governing_in, share_in, used_in}
 use Rattle.bk_tree.specs.declared.place.Placed.{Placed}
 use Rattle.bk_tree.specs.Objects.{Objects, facts_of}
 use Rattle.bk_tree.specs.Kept.{has_cell, HasDirectory, IsClosed, IsKept}
 use Rattle.bk_tree.proofs.Totals.{part, total_of, total-le, total-alike, total-insert}
-use Rattle.bk_tree.proofs.Found.{some_same, tied_path, tied-itself}
-use Rattle.bk_tree.proofs.Smaller.{IsSmaller, level_at, quota_at, governing-same, level-same, has_cell-same, share-same}
+use Rattle.bk_tree.proofs.Found.{some_same, tied_path}
+use Rattle.bk_tree.proofs.Smaller.{IsSmaller, quota_at, governing-same, level-same, has_cell-same, share-same}
 
 pub apart_paths : (a b : Path) → a ≢ b → is_same a b ≡ false
 apart_paths a b apart = by (is_same a b) refl
@@ -117,7 +115,7 @@ module _ (m : Objects) (kept : IsKept m) (e : ℕ) (p : Path) (x : Placed) (free
           let levels = level-same m added kept.parents smaller p above.0 above.1 in
           let one : x ≡ a = some_same x a h in
           let same : charge_of x.facts (level_in facts_of m p) ≡ charge_of a.facts (level_in facts_of added r) =
-              (λ i. charge_of ((one i).facts) (levels i)) ∙ ap (λ r. charge_of a.facts (level_in facts_of added r)) (sym is) in
+          (λ i. charge_of ((one i).facts) (levels i)) ∙ ap (λ r. charge_of a.facts (level_in facts_of added r)) (sym is) in
           omega (arith, some, same)
       charged_by f r a false tie h =
           let (d, hd, kind) = kept.parents f r a h in

@@ -1,15 +1,15 @@
 -- What the map of a list of places has once one place is changed.
-use Rattle.std.proofs.Common.{◌≡◌, ◌≢◌, ◌⊎◌, inl, inr, ℕ, zero, suc, ◌+◌, ◌<◌, ◌≤◌, Bool, true, false, cond, not, List, [], ◌∷◌, length, replicate, Option, Some, None, refl, sym, ap, ◌∙◌, subst, arith, set, length-set}
+use Rattle.std.proofs.Common.{◌≡◌, ◌≢◌, ◌⊎◌, inl, inr, ℕ, zero, suc, ◌<◌, ◌≤◌, Bool, true, false, cond, not, List, [], ◌∷◌, length, replicate, Option, Some, None, refl, sym, ap, ◌∙◌, subst, arith, set, length-set}
 use Rattle.std.proofs.lemmas.List.{length-replicate}
 use Rattle.std.proofs.lemmas.Option.{slice_get_within}
 use Rattle.bk_object.specs.declared.modes.Modes.{Modes}
 use Rattle.std.specs.Prelude.{slice_get, unwrap_or, option_map}
 use Rattle.std.specs.Ordering.{eq_by_cmp}
-use Rattle.std.specs.FinMap.{get, from_entries, insert, retain_keys, get-insert, get-retain_keys, same_map}
+use Rattle.std.specs.FinMap.{get, from_entries, insert, get-insert, get-retain_keys, same_map}
 use Rattle.bk_object.specs.declared.Facts.{Facts}
 use Rattle.bk_object.specs.Kinds.{is_directory}
 use Rattle.bk_path.specs.Paths.{Path, path_cmp, is_same}
-use Rattle.bk_path.specs.Orders.{path_total, path_apart, same_path, is_same-itself, ties-same}
+use Rattle.bk_path.specs.Orders.{path_total, path_apart, same_path, is_same-itself}
 use Rattle.bk_quota.specs.Charges.{quota_in}
 use Rattle.bk_tree.specs.declared.place.Placed.{Placed}
 use Rattle.bk_tree.specs.declared.place.Object.{Object}

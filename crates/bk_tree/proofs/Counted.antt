@@ -1,9 +1,9 @@
 -- The used number of a cell is counted over the places.
-use Rattle.std.proofs.Common.{◌≡◌, ◌≢◌, ℕ, zero, suc, ◌+◌, ◌<◌, ◌≤◌, Bool, true, false, cond, List, [], ◌∷◌, length, Option, Some, None, refl, sym, ap, ◌∙◌, subst, arith}
-use Rattle.std.specs.Prelude.{sum_by, slice_get, IsSome, IsNone, IsTrue, ◌↔◌, not, ◌&&◌, ◌==◌}
+use Rattle.std.proofs.Common.{◌≡◌, ◌≢◌, ℕ, suc, ◌+◌, ◌<◌, ◌≤◌, Bool, true, false, List, [], ◌∷◌, length, Option, Some, None, refl, sym, ap, ◌∙◌, arith}
+use Rattle.std.specs.Prelude.{sum_by, IsSome, IsTrue, ◌↔◌, not, ◌&&◌, ◌==◌}
 use Rattle.bk_quota.specs.Usage.{Usage, charged}
 use Rattle.bk_object.specs.Kinds.{is_directory}
-use Rattle.std.specs.FinMap.{find, get, insert, entries, from_entries, get-from_entries}
+use Rattle.std.specs.FinMap.{find, get}
 use Rattle.std.proofs.lemmas.List.Sums.{sum_by-cons}
 use Rattle.bk_object.specs.declared.Facts.{Facts}
 use Rattle.bk_path.specs.Paths.{Path, parent, path_cmp}
@@ -13,11 +13,11 @@ use Rattle.bk_tree.specs.declared.place.Placed.{Placed}
 use Rattle.bk_tree.specs.declared.place.Object.{Object}
 use Rattle.bk_tree.specs.Objects.{Objects, facts_of}
 use Rattle.bk_tree.specs.Kept.{IsKept, cell_in}
-use Rattle.bk_tree.specs.Places.{entries_from, tree_of, share_of, IsApart, IsTree, IsFull}
+use Rattle.bk_tree.specs.Places.{entries_from, tree_of, share_of, IsApart, IsFull}
 use Rattle.bk_tree.proofs.IsDistinct.{IsDistinct}
 use Rattle.bk_tree.proofs.Totals.{total_of}
 use Rattle.bk_tree.proofs.Distinct.{total_of-from_entries}
-use Rattle.bk_tree.proofs.Found.{found-at, is_there}
+use Rattle.bk_tree.proofs.Found.{found-at}
 use Rattle.bk_tree.proofs.Smaller.{quota_at}
 use Rattle.bk_tree.proofs.Added.{governing_there}
 use Rattle.bk_tree.proofs.Room.{governing-has_cell}

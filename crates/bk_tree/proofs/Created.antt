@@ -1,8 +1,8 @@
 -- A free place takes one object more, and where its charge fits a place is free.
-use Rattle.std.proofs.Common.{◌≡◌, ◌≢◌, ◌⊎◌, inl, inr, ℕ, zero, suc, ◌+◌, ◌<◌, ◌≤◌, Bool, true, false, cond, not, ◌&&◌, ◌==◌, List, [], ◌∷◌, length, Option, Some, None, refl, sym, ap, ◌∙◌, subst, arith, set, length-set}
-use Rattle.std.specs.Prelude.{slice_get, unwrap_or, option_map, if◌then◌else◌, IsNone, IsSome, IsTrue, IfNone, IfSome, is_some, ◌↔◌}
+use Rattle.std.proofs.Common.{◌≡◌, ◌≢◌, ◌⊎◌, inl, inr, ℕ, ◌<◌, ◌≤◌, Bool, true, false, cond, not, ◌&&◌, ◌==◌, List, [], ◌∷◌, length, Option, Some, None, refl, sym, ap, ◌∙◌, subst, arith, set, length-set}
+use Rattle.std.specs.Prelude.{slice_get, if◌then◌else◌, IsNone, IsSome, IsTrue, IfNone, IfSome, is_some, ◌↔◌}
 use Rattle.std.specs.Ordering.{eq_by_cmp}
-use Rattle.std.specs.FinMap.{get, find, insert, get-insert, same_map, entries, get-from_entries}
+use Rattle.std.specs.FinMap.{get, insert, get-insert, same_map}
 use Rattle.std.proofs.lemmas.Option.{slice_get_within}
 use Rattle.std.proofs.lemmas.Bool.Decides.{nat_tests}
 use Rattle.bk_object.specs.declared.Facts.{Facts}
@@ -12,17 +12,17 @@ use Rattle.bk_object.specs.declared.Kind.TheVariants.{Directory, Segment, Mailbo
 use Rattle.bk_object.specs.Kinds.{is_directory}
 use Rattle.bk_path.specs.Paths.{Path, parent, path_cmp}
 use Rattle.bk_path.specs.Orders.{path_total, path_apart}
-use Rattle.bk_quota.specs.Charges.{charge_of, level_in, quota_in, is_upgraded_in, governing_in, used_in}
+use Rattle.bk_quota.specs.Charges.{level_in}
 use Rattle.bk_tree.specs.declared.place.Placed.{Placed}
 use Rattle.bk_tree.specs.declared.place.Object.{Object}
-use Rattle.bk_tree.specs.Objects.{Objects, IsAt, facts_of, slot_of}
+use Rattle.bk_tree.specs.Objects.{Objects, facts_of}
 use Rattle.bk_tree.specs.Kept.{Fits, HasBlocks, HasDirectory, HasQuota, IsFit, IsKept}
 use Rattle.bk_tree.specs.Places.{entries_from, tree_of, IsApart, IsFull, IsRooted, IsTree}
-use Rattle.bk_tree.proofs.Totals.{total_of, total-insert}
+use Rattle.bk_tree.proofs.Totals.{total-insert}
 use Rattle.bk_tree.proofs.Distinct.{total_of-from_entries}
-use Rattle.bk_tree.proofs.Found.{some_same, tied_path, tied-itself, stands, is_there}
+use Rattle.bk_tree.proofs.Found.{tied_path, tied-itself, is_there}
 use Rattle.bk_tree.proofs.Smaller.{charge_by, charge_is, level_at, upgraded_at}
-use Rattle.bk_tree.proofs.Added.{added, kept-added, still_there}
+use Rattle.bk_tree.proofs.Added.{kept-added, still_there}
 use Rattle.bk_tree.proofs.Room.{room}
 use Rattle.bk_tree.proofs.Changed.{same_or_not, set-same, set-other, held, held_path, elsewhere}
 use Rattle.bk_tree.proofs.Counted.{distinct_entries, full_total}
@@ -44,14 +44,14 @@ module _ (m : Objects) (kept : IsKept m) (e : ℕ) (p : Path) (x : Placed) (free
   pub kept-created : IsKept (insert m (e ∷ p) x)
   kept-created = kept-added m kept e p x free above (omega (arith, fits))
       (let some = charge_some x.facts.kind x.facts.blocks x.facts.level x.facts.quota (level_in facts_of m p) fit.blocks fit.quota in
-       let is = charge_is x.facts.kind x.facts (level_in facts_of m p) in omega (arith, some, is))
+      let is = charge_is x.facts.kind x.facts (level_in facts_of m p) in omega (arith, some, is))
       (λ up.
-          let (d, hd, kind) = above in
-          let new : get (insert m (e ∷ p) x) (e ∷ p) ≡ Some x = get-insert path_total m (e ∷ p) x (e ∷ p) ∙ ap (λ t. cond t (Some x) (get m (e ∷ p))) (tied-itself (e ∷ p)) in
-          let tests = sym (upgraded_at (insert m (e ∷ p) x) e p x d new (still_there m kept e p x free above p d hd)) ∙ up in
-          let levels = level_at m p d hd in
-          let given = subst (λ t. HasQuota t x.facts.quota) (ap (λ l. is_directory x.facts.kind && not (l == x.facts.level)) levels ∙ tests) fit.quota in
-          given.0)
+      let (d, hd, kind) = above in
+      let new : get (insert m (e ∷ p) x) (e ∷ p) ≡ Some x = get-insert path_total m (e ∷ p) x (e ∷ p) ∙ ap (λ t. cond t (Some x) (get m (e ∷ p))) (tied-itself (e ∷ p)) in
+      let tests = sym (upgraded_at (insert m (e ∷ p) x) e p x d new (still_there m kept e p x free above p d hd)) ∙ up in
+      let levels = level_at m p d hd in
+      let given = subst (λ t. HasQuota t x.facts.quota) (ap (λ l. is_directory x.facts.kind && not (l == x.facts.level)) levels ∙ tests) fit.quota in
+      given.0)
 
 -- where the charge fits, a place is free
 pub some_free : (places : List (Option Object)) (tree : IsTree places) (path : Path) (facts : Facts) → path ≢ [] → get (tree_of places) path ≡ None → HasDirectory (tree_of places) (parent path) →
@@ -117,11 +117,14 @@ module _ (places : List (Option Object)) (tree : IsTree places) (k : ℕ) (p : P
     where
       by : (0 ≡ k) ⊎ (0 ≢ k) → (root : Facts) × IsRooted filled root
       by (inl e) = absurd (cc (sym tree.rooted.1.first ∙ ap (slice_get places) e ∙ at))
-      by (inr n) = (tree.rooted.0, record {
-        first = set-other places k 0 (held p f) n ∙ tree.rooted.1.first;
-        kind = tree.rooted.1.kind;
-        quota = tree.rooted.1.quota ∙ sym (length-set places k (held p f));
-      })
+      by (inr n) = (
+        tree.rooted.0,
+        record {
+          first = set-other places k 0 (held p f) n ∙ tree.rooted.1.first;
+          kind = tree.rooted.1.kind;
+          quota = tree.rooted.1.quota ∙ sym (length-set places k (held p f));
+        },
+      )
 
       inside : (p : Path) → get (tree_of places) p ≡ None → p ≢ [] → HasDirectory (tree_of places) (parent p) → IsFit f (level_in facts_of (tree_of places) (parent p)) → Fits (tree_of places) p f →
           IsKept (insert (tree_of places) p (record { slot = k; facts = f }))

@@ -1,8 +1,8 @@
 -- Lists of entries in which no key stands twice.
-use Rattle.std.proofs.Common.{◌≡◌, ℕ, ◌+◌, Bool, true, false, cond, List, [], ◌∷◌, ◌++◌, length, Option, Some, None, refl, sym, ap, ◌∙◌, arith, Ordering}
+use Rattle.std.proofs.Common.{◌≡◌, ℕ, Bool, true, false, cond, List, [], ◌∷◌, ◌++◌, length, Some, None, refl, sym, ap, ◌∙◌, arith, Ordering}
 use Rattle.std.specs.Ordering.{eq_by_cmp}
 use Rattle.std.specs.Cmp.{IsTotalOrder, eq_by_cmp_equiv}
-use Rattle.std.specs.FinMap.{FinMap, IsAntisymmetric, find, entries, from_entries, get-from_entries, len-empty, len-entries}
+use Rattle.std.specs.FinMap.{IsAntisymmetric, find, entries, from_entries, get-from_entries, len-empty, len-entries}
 use Rattle.std.specs.FinMap.Entries.{where_key, find-where_key, find-append}
 use Rattle.std.proofs.lemmas.List.Sums.{sum_by-cons}
 use Rattle.bk_tree.proofs.IsDistinct.{IsDistinct}

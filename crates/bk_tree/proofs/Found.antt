@@ -1,17 +1,17 @@
 -- What is looked up in the map of a list of places is what stands at the place.
-use Rattle.std.proofs.Common.{◌≡◌, ℕ, zero, suc, ◌+◌, ◌<◌, ◌≤◌, Bool, true, false, cond, List, [], ◌∷◌, length, Option, Some, None, refl, sym, ap, ◌∙◌, subst, arith, is_eq, set}
-use Rattle.std.specs.Prelude.{slice_get, unwrap_or, is_some, option_map, IfSome, IsNone, IsSome, ◌↔◌}
+use Rattle.std.proofs.Common.{◌≡◌, ℕ, zero, suc, ◌+◌, Bool, true, false, cond, List, [], ◌∷◌, Option, Some, None, refl, sym, ap, ◌∙◌, subst, arith, is_eq}
+use Rattle.std.specs.Prelude.{slice_get, unwrap_or, option_map, IfSome, IsNone, IsSome, ◌↔◌}
 use Rattle.std.specs.Ordering.{eq_by_cmp}
 use Rattle.std.specs.Cmp.{tied_itself}
-use Rattle.std.specs.FinMap.{find, get, get-from_entries, from_entries}
+use Rattle.std.specs.FinMap.{find, get, get-from_entries}
 use Rattle.bk_object.specs.declared.Facts.{Facts}
 use Rattle.bk_object.specs.declared.Slot.{Slot}
-use Rattle.bk_path.specs.Paths.{Path, path_cmp, is_same}
-use Rattle.bk_path.specs.Orders.{path_total, path_apart, same_path, is_same-itself, ties-same}
+use Rattle.bk_path.specs.Paths.{Path, path_cmp}
+use Rattle.bk_path.specs.Orders.{path_total, same_path, ties-same}
 use Rattle.bk_tree.specs.declared.place.Placed.{Placed}
 use Rattle.bk_tree.specs.declared.place.Object.{Object}
 use Rattle.bk_tree.specs.Objects.{Objects, HasSlot, IsAt, facts_of, slot_of}
-use Rattle.bk_tree.specs.Places.{entries_from, tree_of, is_of, IsApart}
+use Rattle.bk_tree.specs.Places.{entries_from, tree_of, IsApart}
 
 pub some_same : {A : Type 0} (x y : A) → Some x ≡ Some y → x ≡ y
 some_same x y e = ap (λ o. unwrap_or o x) e

@@ -1,20 +1,19 @@
 -- What is kept: at first, under another row, and without a leaf.
-use Rattle.std.proofs.Common.{◌≡◌, ◌≢◌, ℕ, ◌+◌, ◌≤◌, Bool, true, false, cond, not, List, [], ◌∷◌, Option, Some, None, refl, sym, ap, ◌∙◌, subst, arith}
-use Rattle.std.specs.Prelude.{IsNone, unwrap_or}
-use Rattle.std.specs.FinMap.{get, insert, get-insert, retain_keys, get-retain_keys, entries, from_entries, get-from_entries}
+use Rattle.std.proofs.Common.{◌≡◌, ℕ, ◌≤◌, Bool, true, false, cond, not, [], ◌∷◌, Some, None, refl, sym, ap, ◌∙◌, subst, arith}
+use Rattle.std.specs.Prelude.{IsNone}
+use Rattle.std.specs.FinMap.{get, insert, get-insert, get-retain_keys, get-from_entries}
 use Rattle.std.specs.Ordering.{eq_by_cmp}
 use Rattle.std.proofs.lemmas.List.Sums.{sum_by-cons}
 use Rattle.bk_object.specs.declared.Facts.{Facts}
 use Rattle.bk_object.specs.Kinds.{is_directory}
 use Rattle.bk_path.specs.Paths.{Path, path_cmp, is_same}
-use Rattle.bk_path.specs.Orders.{path_total, path_apart, same_path, is_same-itself}
+use Rattle.bk_path.specs.Orders.{path_total, path_apart, same_path}
 use Rattle.bk_quota.specs.Charges.{share_in, used_in}
 use Rattle.bk_tree.specs.declared.place.Placed.{Placed}
 use Rattle.bk_tree.specs.Objects.{Objects, HasNoChild, begun, facts_of, without}
-use Rattle.bk_tree.specs.Kept.{has_cell, HasDirectory, IsClosed, IsKept}
-use Rattle.bk_tree.proofs.Totals.{total_of}
+use Rattle.bk_tree.specs.Kept.{IsClosed, IsKept}
 use Rattle.bk_tree.proofs.Distinct.{total_of-from_entries}
-use Rattle.bk_tree.proofs.Found.{some_same, tied_path, tied-itself}
+use Rattle.bk_tree.proofs.Found.{some_same, tied_path}
 use Rattle.bk_tree.proofs.Smaller.{bare, IsSmaller, kept-smaller}
 
 module _ (root : Facts) (some : 1 ≤ root.quota) where

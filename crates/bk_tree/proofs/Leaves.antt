@@ -1,5 +1,5 @@
 -- A deepest inferior has no children.
-use Rattle.std.proofs.Common.{◌≡◌, ◌≢◌, ◌⊎◌, inl, inr, ℕ, zero, suc, ◌+◌, ◌<◌, ◌≤◌, Bool, true, false, cond, ◌||◌, List, [], ◌∷◌, length, Option, Some, None, refl, sym, ap, ◌∙◌, subst, arith}
+use Rattle.std.proofs.Common.{◌≡◌, ℕ, ◌+◌, ◌<◌, Bool, true, false, ◌||◌, List, ◌∷◌, length, Option, Some, None, refl, sym, ap, ◌∙◌, subst, arith}
 use Rattle.std.specs.Prelude.{slice_get, unwrap_or, option_map, if◌then◌else◌, IsNone, IsTrue, IfSome, IfNone, ◌↔◌}
 use Rattle.std.specs.FinMap.{get}
 use Rattle.std.proofs.lemmas.Option.{slice_get_within}
@@ -8,7 +8,7 @@ use Rattle.bk_object.specs.declared.Slot.{Slot}
 use Rattle.bk_path.specs.Paths.{Path, is_inferior, is_same}
 use Rattle.bk_tree.specs.declared.place.Placed.{Placed}
 use Rattle.bk_tree.specs.declared.place.Object.{Object}
-use Rattle.bk_tree.specs.Objects.{Objects, IsAt, IsLeafOf, HasNone, HasNoChild}
+use Rattle.bk_tree.specs.Objects.{Objects, IsLeafOf, HasNone}
 use Rattle.bk_tree.specs.Places.{tree_of, IsApart, rank_in, rank_at, IsHighest}
 use Rattle.bk_tree.proofs.Found.{stands, is_there}
 use Rattle.bk_tree.proofs.Changed.{held}

@@ -10,3 +10,4 @@ pub mod Changed
 pub mod Leaves
 pub mod Counted
 pub mod Created
+pub mod Tested

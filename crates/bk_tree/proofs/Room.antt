@@ -1,23 +1,18 @@
 -- Where no cell is overdrawn, there are no more objects than root's quota.
-use Rattle.std.proofs.Common.{◌≡◌, ◌≢◌, ℕ, ◌+◌, ◌≤◌, Bool, true, false, cond, not, ◌&&◌, ◌||◌, List, [], ◌∷◌, Option, Some, None, refl, sym, ap, ◌∙◌, subst, arith, ◌==◌}
-use Rattle.std.specs.Prelude.{sum_by, option_map, unwrap_or, if◌then◌else◌}
-use Rattle.std.specs.FinMap.{FinMap, get, find, entries, get-entries, from_entries, get-from_entries}
+use Rattle.std.proofs.Common.{◌≡◌, ℕ, ◌+◌, ◌≤◌, Bool, true, false, cond, List, [], ◌∷◌, Option, Some, None, refl, sym, ap, ◌∙◌, arith}
+use Rattle.std.specs.Prelude.{sum_by, unwrap_or, if◌then◌else◌}
+use Rattle.std.specs.FinMap.{get, find, entries, get-entries, from_entries, get-from_entries}
 use Rattle.std.specs.Ordering.{eq_by_cmp}
 use Rattle.std.proofs.lemmas.List.Sums.{sum_by-cons}
-use Rattle.std.proofs.lemmas.Bool.Decides.{nat_tests}
-use Rattle.bk_object.specs.declared.Facts.{Facts}
-use Rattle.bk_object.specs.declared.Kind.{Kind}
-use Rattle.bk_object.specs.declared.Kind.TheVariants.{Directory, Segment, Mailbox, Line}
-use Rattle.bk_object.specs.Kinds.{is_directory}
-use Rattle.bk_path.specs.Paths.{Path, path_cmp, is_root, is_same}
-use Rattle.bk_path.specs.Orders.{path_total, path_apart, same_path, is_same-itself}
-use Rattle.bk_quota.specs.Charges.{charge_of, level_in, quota_in, is_upgraded_in, governing_in, share_in, used_in}
+use Rattle.bk_path.specs.Paths.{Path, path_cmp}
+use Rattle.bk_path.specs.Orders.{path_total, path_apart, is_same-itself}
+use Rattle.bk_quota.specs.Charges.{charge_of, level_in, is_upgraded_in, governing_in, share_in}
 use Rattle.bk_tree.specs.declared.place.Placed.{Placed}
 use Rattle.bk_tree.specs.Objects.{Objects, facts_of}
-use Rattle.bk_tree.specs.Kept.{has_cell, HasDirectory, IsClosed, IsKept}
-use Rattle.bk_tree.proofs.Totals.{part, total_of, total-le, total-alike}
+use Rattle.bk_tree.specs.Kept.{has_cell, IsKept}
+use Rattle.bk_tree.proofs.Totals.{part, total_of, total-le}
 use Rattle.bk_tree.proofs.Distinct.{total_of-from_entries}
-use Rattle.bk_tree.proofs.Found.{tied_path, tied-itself}
+use Rattle.bk_tree.proofs.Found.{tied_path}
 use Rattle.bk_tree.proofs.Smaller.{charge_kind, charge_is, charge_by, level_at, upgraded_at}
 use Rattle.bk_tree.proofs.Added.{governing_there}
 
@@ -99,7 +94,7 @@ module _ (m : Objects) (kept : IsKept m) (root : Placed) (top : get m [] ≡ Som
       let (c, hc) = governing_there m kept.parents p d hd in
       let cell : Path = governing_in facts_of m p in
       let value : taken_by (cell, c) (e ∷ p, x) ≡ charge_of x.facts (level_in facts_of m p) =
-          (λ i. cond (governing-has_cell m p i) (cond (is_same-itself (governing_in facts_of m p) i) (charge_of x.facts (level_in facts_of m p)) 0) 0) in
+      (λ i. cond (governing-has_cell m p i) (cond (is_same-itself (governing_in facts_of m p) i) (charge_of x.facts (level_in facts_of m p)) 0) 0) in
       omega (arith, value, found_le (λ q y. taken_by (q, y) (e ∷ p, x)) (governing_in facts_of m p) c es (sym (get-entries m (governing_in facts_of m p)) ∙ hc))
 
   -- no cell is overdrawn

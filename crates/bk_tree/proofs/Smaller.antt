@@ -1,21 +1,19 @@
 -- A map with fewer objects, whose rows may differ, has the same governing cells and no more in use.
-use Rattle.std.proofs.Common.{◌≡◌, ◌≢◌, ℕ, zero, suc, ◌+◌, ◌<◌, ◌≤◌, Bool, true, false, cond, not, ◌&&◌, ◌||◌, List, [], ◌∷◌, length, Option, Some, None, refl, sym, ap, ◌∙◌, subst, arith, ◌==◌}
+use Rattle.std.proofs.Common.{◌≡◌, ℕ, ◌≤◌, Bool, true, false, not, ◌&&◌, [], ◌∷◌, Option, Some, None, refl, sym, ap, ◌∙◌, arith, ◌==◌}
 use Rattle.std.specs.Prelude.{unwrap_or, option_map, if◌then◌else◌}
-use Rattle.std.specs.FinMap.{get, insert, get-insert, entries}
-use Rattle.std.specs.Ordering.{eq_by_cmp}
+use Rattle.std.specs.FinMap.{get}
 use Rattle.std.proofs.lemmas.Bool.Decides.{nat_tests}
 use Rattle.bk_object.specs.declared.Facts.{Facts}
 use Rattle.bk_object.specs.declared.Kind.{Kind}
 use Rattle.bk_object.specs.declared.Kind.TheVariants.{Directory, Segment, Mailbox, Line}
 use Rattle.bk_object.specs.Kinds.{is_directory}
-use Rattle.bk_path.specs.Paths.{Path, path_cmp, is_root, is_same}
-use Rattle.bk_path.specs.Orders.{path_total, path_apart, same_path, is_same-itself}
-use Rattle.bk_quota.specs.Charges.{charge_of, passes, facts_in, level_in, quota_in, is_upgraded_in, governing_in, share_in, used_in}
+use Rattle.bk_path.specs.Paths.{Path, path_cmp, is_same}
+use Rattle.bk_path.specs.Orders.{path_total, path_apart}
+use Rattle.bk_quota.specs.Charges.{charge_of, passes, level_in, quota_in, is_upgraded_in, governing_in, share_in, used_in}
 use Rattle.bk_tree.specs.declared.place.Placed.{Placed}
-use Rattle.bk_tree.specs.Objects.{Objects, IsAt, facts_of}
-use Rattle.bk_tree.specs.Kept.{has_cell, HasDirectory, IsClosed, IsKept}
-use Rattle.bk_tree.proofs.Totals.{part, total_of, total-le, total-alike, total-insert}
-use Rattle.bk_tree.proofs.Found.{some_same, tied_path, tied-itself}
+use Rattle.bk_tree.specs.Objects.{Objects, facts_of}
+use Rattle.bk_tree.specs.Kept.{has_cell, IsClosed, IsKept}
+use Rattle.bk_tree.proofs.Totals.{part, total-le}
 
 -- facts without their row
 abbrev pub bare : Facts → Facts

@@ -1,5 +1,5 @@
 -- What every tree keeps: parents are there, each object is charged something, and no cell is overdrawn.
-use Rattle.std.specs.Prelude.{◌≡◌, ℕ, ◌≤◌, ◌+◌, ◌&&◌, not, ◌==◌, false, ◌||◌, Bool, true, [], ◌∷◌, Some}
+use Rattle.std.specs.Prelude.{◌≡◌, ℕ, ◌≤◌, ◌+◌, ◌&&◌, not, ◌==◌, false, ◌||◌, Bool, true, ◌∷◌, Some}
 use Rattle.std.specs.FinMap as map
 use Rattle.bk_object.specs.declared.Facts.{Facts}
 use Rattle.bk_object.specs.declared.Kind.{Kind}

@@ -178,7 +178,10 @@ pub(crate) fn has_room(places: &[Option<Object>], path: Path, facts: &Facts) -> 
     ensures { IsTrue result ↔ Fits (tree_of places.now) path facts.now }
 {
     match path.parent() {
-        Some(above) => fits(governing_cell(places, above), charge_of(facts, level_at(places, above))),
+        Some(above) => fits(
+            governing_cell(places, above),
+            charge_of(facts, level_at(places, above)),
+        ),
         None => false,
     }
 }

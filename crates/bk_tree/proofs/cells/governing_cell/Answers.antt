@@ -8,4 +8,4 @@ use Rattle.bk_tree.proofs.cells.governing_cell.Goals as goal
 pub cell_at-requires-clause-within : goal.cell_at-requires-clause-within
 cell_at-requires-clause-within c =
     subst (λ cell. used_in facts_of (tree_of c.args.places.now) cell ≤ quota_in facts_of (tree_of c.args.places.now) cell) (sym c.governing.ensures)
-        (governing_within (tree_of c.args.places.now) c.requires.tree.kept c.args.path c.requires.there)
+    (governing_within (tree_of c.args.places.now) c.requires.tree.kept c.args.path c.requires.there)

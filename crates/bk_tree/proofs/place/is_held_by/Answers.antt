@@ -1,4 +1,4 @@
-use Rattle.std.proofs.Common.{sym, ◌∙◌, ap, subst, ◌≡◌, Option}
+use Rattle.std.proofs.Common.{sym, ◌∙◌, ap}
 use Rattle.bk_path.specs.Orders.{ties-same}
 use Rattle.bk_tree.specs.Places.{is_of}
 use Rattle.bk_tree.proofs.place.is_held_by.Goals as goal

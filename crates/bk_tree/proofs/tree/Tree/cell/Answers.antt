@@ -1,4 +1,4 @@
-use Rattle.std.proofs.Common.{◌∙◌, sym, ap}
+use Rattle.std.proofs.Common.{◌∙◌, ap}
 use Rattle.bk_quota.specs.Charges.{governing_in}
 use Rattle.bk_tree.specs.Objects.{facts_of}
 use Rattle.bk_tree.specs.Kept.{cell_in}

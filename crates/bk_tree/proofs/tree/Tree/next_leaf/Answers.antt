@@ -1,8 +1,3 @@
-use Rattle.std.proofs.Common.{◌≡◌, ◌<◌, ◌≤◌, List, Option, Some, None, length}
-use Rattle.std.specs.Prelude.{IfSome, IfNone}
-use Rattle.bk_object.specs.declared.Slot.{Slot}
-use Rattle.bk_tree.specs.Objects.{IsLeafOf, HasNone}
-use Rattle.bk_tree.specs.Places.{rank_at, IsHighest}
 use Rattle.bk_tree.proofs.Leaves.{some_leaf, no_leaf, none_exactly}
 use Rattle.bk_tree.proofs.tree.Tree.next_leaf.Goals as goal
 

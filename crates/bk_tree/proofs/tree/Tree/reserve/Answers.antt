@@ -1,4 +1,4 @@
-use Rattle.std.proofs.Common.{◌≡◌, ◌≤◌, sym, ◌∙◌, ap, subst, Some, arith}
+use Rattle.std.proofs.Common.{sym, ◌∙◌, ap, subst, Some, arith}
 use Rattle.std.specs.Prelude.{set}
 use Rattle.bk_tree.specs.Places.{tree_of, IsTree}
 use Rattle.bk_tree.proofs.Changed.{begun-places, begun-tree}
@@ -17,4 +17,4 @@ invariant_of-result c =
     let high = c.requires.quota.1 in
     let same = c.requires.slots in
     subst IsTree (sym (c.put.ensures ∙ (λ i. set (c.in_ok-places.ensures i) 0 (Some (record { path = c.root.ensures i; facts = c.args.root })))))
-        (begun-tree c.args.slots c.args.root (omega (arith, low, same)) (omega (arith, high, same)) c.requires.directory same)
+    (begun-tree c.args.slots c.args.root (omega (arith, low, same)) (omega (arith, high, same)) c.requires.directory same)

@@ -1,6 +1,6 @@
 use Rattle.bk_tree.proofs.Found.{stands_there}
 use Rattle.bk_tree.proofs.Changed.{within, row-tree, row-map}
-use Rattle.std.proofs.Common.{◌≡◌, sym, ◌∙◌, ap, Some, refl}
+use Rattle.std.proofs.Common.{◌∙◌, ap, Some, refl}
 use Rattle.std.specs.Prelude.{set}
 use Rattle.bk_tree.proofs.tree.Tree.set_row.Goals as goal
 
