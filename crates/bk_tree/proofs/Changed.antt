@@ -268,3 +268,8 @@ module _ (places : List (Option Object)) (tree : IsTree places) (m : Objects) (v
 
   pub slots_apart : (p q : Path) (slot : ℕ) (f g : Facts) → IsAt m p slot f → IsAt m q slot g → p ≡ q
   slots_apart p q slot f g hp hq = held_path p q f g (sym (place_of p slot f hp) ∙ place_of q slot g hq)
+
+  pub root_at_first : (facts : Facts) × IsAt m [] 0 facts × (is_directory facts.kind ≡ true)
+  root_at_first =
+      let (root, is) = tree.rooted in
+      (root, sym (ap (λ t. get t []) view) ∙ is_there places tree.apart 0 (record { path = []; facts = root }) is.first, is.kind)

@@ -6,7 +6,7 @@ ghost use Rattle.bk_object.specs.declared.Facts.{Facts as FactsValue};
 ghost use Rattle.bk_object.specs.Kinds.{is_directory};
 ghost use Rattle.bk_path.specs.Paths.{Path as PathValue, parent};
 ghost use Rattle.bk_quota.specs.Charges.{governing_in, level_in, quota_in};
-ghost use Rattle.bk_tree.specs.Kept.{cell_in, Fits, HasDirectory, IsFit};
+ghost use Rattle.bk_tree.specs.Kept.{cell_in, Fits, HasDirectory, IsFit, IsKept};
 ghost use Rattle.bk_tree.specs.Refused.{Refuses};
 ghost use Rattle.bk_tree.specs.Objects.{facts_of, CanGo, HasNone, HasSlot, IsAt, IsLeafOf, begun, slot_of, without};
 
@@ -96,6 +96,7 @@ impl Tree {
         let object = object_at(&self.places, slot);
         put(&mut self.places, slot, Some(with_row(object, row)));
     }
+
     /// An object with these facts is at the path from now on, at a slot that no object had. Taken goes before Quota, and
     /// where there is no object created nothing changes.
     pub fn create(&mut self, path: Path, facts: Facts) -> Result<Slot, TreeNo>
@@ -147,6 +148,13 @@ impl Tree {
     pub fn law_slots(&self)
         ensures within { (path : PathValue) (slot : ℕ) (facts : FactsValue) → IsAt self.now path slot facts → slot < quota_in (λ placed. placed.facts) self.now [] }
         ensures apart { (p q : PathValue) (slot : ℕ) (f g : FactsValue) → IsAt self.now p slot f → IsAt self.now q slot g → p ≡ q }
+    {
+        let _places = self.places.len();
+    }
+    /// Root is a directory at slot 0, parents are there, each object is charged something, and no cell is overdrawn.
+    pub fn law_kept(&self)
+        ensures root { (facts : FactsValue) × IsAt self.now [] 0 facts × (is_directory facts.kind ≡ true) }
+        ensures kept { IsKept self.now }
     {
         let _places = self.places.len();
     }
