@@ -1,0 +1,13 @@
+pub mod IsDistinct
+pub mod Totals
+pub mod Distinct
+pub mod Found
+pub mod Smaller
+pub mod Added
+pub mod Keeping
+pub mod Room
+pub mod Changed
+pub mod Leaves
+pub mod Counted
+pub mod Created
+pub mod Tested

@@ -1,0 +1,4 @@
+pub mod Objects
+pub mod Kept
+pub mod Refused
+pub mod Places
