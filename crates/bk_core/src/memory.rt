@@ -1,6 +1,6 @@
 // The physical words, in one list.
 
-ghost use Rattle.std.specs.Prelude.{◌≡◌, ℕ, ◌+◌, ◌*◌, ◌%◌, ◌<◌, ◌≤◌, length, replicate, IfOk};
+ghost use Rattle.std.specs.Prelude.{◌≡◌, ℕ, ◌+◌, ◌*◌, ◌%◌, ◌<◌, ◌≤◌, length, drop, replicate, IfOk};
 ghost use lib.Seq.{paste};
 
 use bk_base::NoMemory;
@@ -105,10 +105,17 @@ impl Core {
         let from = from as usize * 32;
         let to = to as usize * 32;
         let count = count as usize * 32;
-        self.words
-            .as_mut_slice()
-            .copy_within(from..from + count, to);
+        copy_words(&mut self.words, from, to, count);
     }
+}
+
+// So many words stand a second time from another place on, as they stood before.
+fn copy_words(words: &mut Vec<u16>, from: usize, to: usize, count: usize)
+    requires down { to ≤ from }
+    requires inside { from + count ≤ length words.old.items }
+    ensures { words.new.items ≡ paste words.old.items to (drop from words.old.items) count }
+{
+    words.as_mut_slice().copy_within(from..from + count, to);
 }
 
 // So many words from a place on become zero.
