@@ -1,6 +1,5 @@
-use Rattle.std.proofs.Common.{◌≡◌, ℕ, ◌+◌, ◌<◌, List, [], ◌∷◌, ◌++◌, length, get_or, set, map, replicate, refl, sym, ◌∙◌, ap, arith, zero, suc}
+use Rattle.std.proofs.Common.{◌≡◌, ℕ, ◌<◌, List, [], ◌∷◌, length, get_or, set, map, refl, ◌∙◌, ap, arith, zero, suc}
 use Rattle.std.proofs.lemmas.List.{map-set}
-use Rattle.bk_space.specs.AddrSpace.{Page}
 use Rattle.bk_cpu.specs.declared.page.PlainPage.{PlainPage}
 use Rattle.bk_cpu.specs.Pages.{page_of, pages_of}
 use Rattle.bk_cpu.specs.Plain.{no_page, page_in}

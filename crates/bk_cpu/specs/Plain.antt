@@ -2,7 +2,7 @@ use Rattle.std.specs.Prelude.{ℕ, ◌+◌, ◌*◌, ◌/◌, ◌%◌, ◌^◌, 
 use Rattle.bk_space.specs.declared.reference.Width.{Width}
 use Rattle.bk_space.specs.declared.reference.Width.TheVariants.{Word, Byte}
 use Rattle.bk_space.specs.declared.reference.Rights.TheVariants as rights
-use Rattle.bk_space.specs.AddrSpace.{AddrSpace, Page, Write, page_number, offset_of}
+use Rattle.bk_space.specs.AddrSpace.{Page, Write, page_number, offset_of}
 
 -- a plain bus: its pages by their numbers, and how many references were made
 pub record Plain : Type 0 where

@@ -1,4 +1,4 @@
-use Rattle.std.specs.Prelude.{◌≡◌, Result, Ok, Err, Option}
+use Rattle.std.specs.Prelude.{◌≡◌, Result, Ok, Err}
 use Rattle.bk_space.specs.declared.cause.Cause.{Cause}
 use Rattle.bk_space.specs.declared.registers.Regs.{Regs}
 use Rattle.bk_space.specs.AddrSpace.{Write, applied}
