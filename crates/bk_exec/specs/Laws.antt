@@ -1,7 +1,8 @@
-use Rattle.std.specs.Prelude.{◌≡◌, None}
+use Rattle.std.specs.Prelude.{◌≡◌, Option, Some, None, IsOk}
 use Rattle.bk_space.specs.declared.cause.Cause.{Cause}
 use Rattle.bk_space.specs.declared.cause.Cause.TheVariants as causes
 use Rattle.bk_space.specs.declared.registers.Regs.{Regs}
+use Rattle.bk_space.specs.AddrSpace.{AddrSpace, Write, write_at}
 use Rattle.bk_exec.specs.Exec.{Done}
 
 -- the faults 0 to 4: an abort, or a reserved instruction
@@ -19,3 +20,8 @@ IsCutOff causes.Trap = ⊥
 pub record ChangesNothing (before : Regs) (done : Done) : Type 0 where
   pub registers : done.regs ≡ before
   pub nothing : done.write ≡ None
+
+-- no write, or one that completes
+abbrev pub IsAllowed : AddrSpace → Option Write → Type 0
+IsAllowed pages None = Unit {0}
+IsAllowed pages (Some w) = IsOk (write_at pages w.mode w.space w.width w.addr)

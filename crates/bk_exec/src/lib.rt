@@ -2,9 +2,9 @@
 //!
 //! Model: `specs/Exec.antt` (`exec`, `executed`), by groups in `specs/Operands.antt`, `specs/Extended.antt`,
 //! `specs/Control.antt` and `specs/Previous.antt`.
-//! Calls: none. (`law_faults` and `law_references` are empty functions, for their contracts.)
-//! Proved: a fault from 0 to 4 changes nothing, and no instruction makes more than eight references; that
-//! `step` is this definition over any bus is proved in `bk_cpu`.
+//! Calls: none. (`law_faults`, `law_references` and `law_write` are empty functions, for their contracts.)
+//! Proved: a fault from 0 to 4 changes nothing, no instruction makes more than eight references, and its
+//! write completes; that `step` is this definition over any bus is proved in `bk_cpu`.
 //! Stands on: `bk_space`, `bk_isa`, `bk_operand`.
 #![tactic(auto)]
 
@@ -14,4 +14,4 @@ mod law;
 
 pub use ending::Ending;
 pub use event::Event;
-pub use law::{law_faults, law_references};
+pub use law::{law_faults, law_references, law_write};
