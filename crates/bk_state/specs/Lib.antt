@@ -8,3 +8,5 @@ pub mod Changes
 pub mod Smallest
 pub mod Start
 pub mod FirstImage
+pub mod Calls
+pub mod Answers

@@ -10,12 +10,14 @@
 //! Stands on: `bk_base`, `bk_level`, `bk_object`, `bk_path`, `bk_quota`, `bk_space`.
 #![tactic(auto)]
 
+mod call;
 mod first;
 mod image;
 mod laws;
 mod process;
 mod rule;
 
+pub use call::{Call, Service};
 pub use first::{FIRST_BACK, FIRST_FRONT};
 pub use image::{Hold, Holds, Image, ObjectRec, Objects, SubjectRec, Subjects, WindowRec, Windows};
 pub use laws::{law_order_of_checks, law_smallest};

@@ -1,0 +1,26 @@
+use crate::Rule;
+
+/// The kernel calls that are none of the nine rules. `Identify` tells the caller its own number and levels.
+#[derive(Clone, Copy, PartialEq, Eq, Debug)]
+pub enum Service {
+    Window,
+    Unwindow,
+    Deposit,
+    Send,
+    Receive,
+    LineOut,
+    LineIn,
+    Entry,
+    Identify,
+    Quota,
+    Pause,
+    SetFaultEntry,
+    Stop,
+}
+
+/// A kernel call: one of the nine rules, or another service of the kernel.
+#[derive(Clone, Copy, PartialEq, Eq, Debug)]
+pub enum Call {
+    ByRule(Rule),
+    Other(Service),
+}
