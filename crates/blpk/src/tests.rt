@@ -287,9 +287,38 @@ fn refuses_what_is_no_script(rt: HostRuntime) -> Result<(), Fail> {
             )?
         );
     }
-    // A script over its limit.
-    let mut input = sample(rt.alloc(), b"END 0\n")?;
-    input.extend_from_slice(&vec![in rt.alloc(); b'\n'; 1_048_571]?)?;
+    Ok(())
+}
+
+/// A well-formed script: 3,957 records on line 0, one a slot from the first on, the first of 109 bytes and the others of
+/// 128, and an END line. It has 1,048,576 bytes from slot 9,999 on, and one more from slot 10,000 on.
+fn long_script(alloc: Global, first: u16) -> Result<Vec<u8>, AllocError> {
+    let first = u32::from(first);
+    let mut script = Vec::new(alloc);
+    for slot in first..first + 3_957 {
+        if slot >= 10_000 {
+            script.push(b'0' + (slot / 10_000 % 10) as u8)?;
+        }
+        script.push(b'0' + (slot / 1_000 % 10) as u8)?;
+        script.push(b'0' + (slot / 100 % 10) as u8)?;
+        script.push(b'0' + (slot / 10 % 10) as u8)?;
+        script.push(b'0' + (slot % 10) as u8)?;
+        script.extend_from_slice(b" 0 ")?;
+        let typed = if slot == first { 109u8 } else { 128 };
+        for _n in 0..typed {
+            script.extend_from_slice(b"61")?;
+        }
+        script.push(b'\n')?;
+    }
+    script.extend_from_slice(b"END 65535\n")?;
+    Ok(script)
+}
+
+#[test]
+fn reads_a_script_up_to_its_limit(rt: HostRuntime) -> Result<(), Fail> {
+    let script = long_script(rt.alloc(), 10_000)?;
+    assert_eq!(rt; script.len(), 1_048_577);
+    let input = sample(rt.alloc(), &script)?;
     assert!(rt;
         gives(
             rt.alloc(),
@@ -297,6 +326,24 @@ fn refuses_what_is_no_script(rt: HostRuntime) -> Result<(), Fail> {
             &input,
             AMPLE,
             (Status::ScriptRefused, b"", NO_SCRIPT)
+        )?
+    );
+    // One byte less is taken: the run begins, and ends as its output has room for one line alone.
+    let script = long_script(rt.alloc(), 9_999)?;
+    assert_eq!(rt; script.len(), 1_048_576);
+    let input = sample(rt.alloc(), &script)?;
+    let line = b"C 0 2 0 020 000000 010400 000000 000000 000000 010400 no 9\n";
+    let outside = Outside {
+        room: line.len() as u32,
+        ..AMPLE
+    };
+    assert!(rt;
+        gives(
+            rt.alloc(),
+            &["run"],
+            &input,
+            outside,
+            (Status::WriteFault, line, b"")
         )?
     );
     Ok(())
