@@ -13,11 +13,9 @@ use crate::tables::Tables;
 use bk_base::NoMemory;
 use bk_object::Kind;
 use bk_path::Path;
-use bk_space::Flags;
-use bk_state::{
-    Clearance, Image, ObjectRec, Process, ProcessorStatus, Registers, Status9, SubjectRec,
-    WindowRec,
-};
+use bk_process::{Process, Status9};
+use bk_space::{Ps, Regs};
+use bk_state::{Clearance, Image, ObjectRec, SubjectRec, WindowRec};
 use std::alloc::{AllocError, Global};
 
 /// The given words, and zeros up to 32 words a block.
@@ -86,22 +84,12 @@ fn process_from(subject: &SubjectRec) -> Process
     ensures { result ≡ process_from subject.now }
 {
     Process {
-        registers: Registers {
+        registers: Regs {
             general: subject.regs,
-            user: subject.user_sp,
             supervisor: subject.super_sp,
+            user: subject.user_sp,
             pc: subject.pc,
-            status: ProcessorStatus {
-                mode: subject.mode,
-                previous: subject.previous,
-                trace: false,
-                flags: Flags {
-                    n: false,
-                    z: false,
-                    v: false,
-                    c: false,
-                },
-            },
+            ps: Ps::process(subject.mode, subject.previous),
         },
         windows: windows_from(subject.windows.as_slice()),
         entries: subject.entries,

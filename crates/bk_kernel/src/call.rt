@@ -7,8 +7,8 @@ ghost use Rattle.std.specs.Prelude.{option_to_list};
 use crate::tables::{Access, Tables};
 use bk_object::Kind;
 use bk_path::Path;
+use bk_process::{Process, Status9};
 use bk_report::ReportItem;
-use bk_state::{Process, Status9};
 use bk_system::Cause;
 
 /// The numbers of the calls.

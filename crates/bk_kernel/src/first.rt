@@ -8,8 +8,7 @@ ghost use Rattle.std.specs.Prelude.{if◌then◌else◌};
 
 use crate::tables::Tables;
 use bk_path::Path;
-use bk_space::{Abort, Flags};
-use bk_state::Registers;
+use bk_space::{Abort, Flags, Regs};
 use bk_system::{Ending, Executed, Instruction};
 
 /// The number of the fault of what is not built.
@@ -63,13 +62,13 @@ fn instruction_of(word: u16) -> Option<Instruction>
     }
 }
 
-fn general(registers: &Registers, number: u8) -> u16
+fn general(registers: &Regs, number: u8) -> u16
     ensures { result ≡ slice_index registers.now.general number }
 {
     registers.general.get(number as usize).copied().unwrap_or(0)
 }
 
-fn with_general(mut registers: Registers, number: u8, value: u16) -> Registers
+fn with_general(mut registers: Regs, number: u8, value: u16) -> Regs
     ensures { result ≡ record registers { general = slice_set registers.general number value } }
 {
     put(&mut registers.general, number, value);
@@ -85,10 +84,10 @@ fn put(general: &mut [u16], number: u8, value: u16)
 }
 
 /// N and Z of a word, V clear, and C as given.
-fn with_flags(mut registers: Registers, value: u16, carry: bool) -> Registers
+fn with_flags(mut registers: Regs, value: u16, carry: bool) -> Regs
     ensures { result ≡ with_flags value carry registers }
 {
-    registers.status.flags = Flags {
+    registers.ps.flags = Flags {
         n: value >= 0x8000,
         z: value == 0,
         v: false,
@@ -97,14 +96,14 @@ fn with_flags(mut registers: Registers, value: u16, carry: bool) -> Registers
     registers
 }
 
-fn moved(value: u16, destination: u8, registers: Registers) -> Registers
+fn moved(value: u16, destination: u8, registers: Regs) -> Regs
     ensures { result ≡ moved value destination registers }
 {
-    let carry = registers.status.flags.c;
+    let carry = registers.ps.flags.c;
     with_flags(with_general(registers, destination, value), value, carry)
 }
 
-fn past_word(mut registers: Registers) -> Registers
+fn past_word(mut registers: Regs) -> Regs
     ensures { result ≡ past_word registers }
 {
     registers.pc = registers.pc.wrapping_add(2);
@@ -112,7 +111,7 @@ fn past_word(mut registers: Registers) -> Registers
 }
 
 /// A signed offset in words from the program counter.
-fn branched(offset: u8, mut registers: Registers) -> Registers
+fn branched(offset: u8, mut registers: Regs) -> Regs
     ensures { result ≡ branched offset registers }
 {
     let distance = 2 * u16::from(offset);
@@ -141,7 +140,7 @@ fn cause_of(abort: Abort) -> u8
     }
 }
 
-fn ran(registers: Registers) -> Executed
+fn ran(registers: Regs) -> Executed
     ensures { result ≡ ran registers }
 {
     Executed {
@@ -151,7 +150,7 @@ fn ran(registers: Registers) -> Executed
     }
 }
 
-fn faulted(registers: Registers, references: u8, cause: u8) -> Executed
+fn faulted(registers: Regs, references: u8, cause: u8) -> Executed
     ensures { result ≡ record { registers = registers; references = references; ending = Faults cause } }
 {
     Executed {
@@ -161,7 +160,7 @@ fn faulted(registers: Registers, references: u8, cause: u8) -> Executed
     }
 }
 
-fn tested(value: u16, registers: Registers) -> Registers
+fn tested(value: u16, registers: Regs) -> Regs
     ensures { result ≡ tested value registers }
 {
     with_flags(registers, value, false)
@@ -173,11 +172,11 @@ impl Tables {
         &self,
         subject: u8,
         windows: &[Option<Path>; 32],
-        registers: &Registers,
+        registers: &Regs,
     ) -> Result<u16, Abort>
         ensures { result ≡ next_word registers.now (space_of self.now subject windows.now) }
     {
-        self.read_word(subject, windows, registers.status.mode, registers.pc)
+        self.read_word(subject, windows, registers.ps.mode, registers.pc)
     }
 
     /// Moves the word after the instruction; `before` are the registers before it, and `now` those past its word.
@@ -185,8 +184,8 @@ impl Tables {
         &self,
         subject: u8,
         windows: &[Option<Path>; 32],
-        before: Registers,
-        now: Registers,
+        before: Regs,
+        now: Regs,
         destination: u8,
     ) -> Executed
         ensures { result ≡ immediate before now destination (next_word now (space_of self.now subject windows.now)) }
@@ -206,8 +205,8 @@ impl Tables {
         &self,
         subject: u8,
         windows: &[Option<Path>; 32],
-        before: Registers,
-        now: Registers,
+        before: Regs,
+        now: Regs,
         instruction: Option<Instruction>,
     ) -> Executed
         ensures { result ≡ executed before now (space_of self.now subject windows.now) instruction }
@@ -224,7 +223,7 @@ impl Tables {
             }
             Some(Instruction::Test { source }) => ran(tested(general(&now, source), now)),
             Some(Instruction::Branch { offset }) => ran(branched(offset, now)),
-            Some(Instruction::BranchIfZero { offset }) => ran(if now.status.flags.z {
+            Some(Instruction::BranchIfZero { offset }) => ran(if now.ps.flags.z {
                 branched(offset, now)
             } else {
                 now
@@ -240,7 +239,7 @@ impl Tables {
         &self,
         subject: u8,
         windows: &[Option<Path>; 32],
-        registers: Registers,
+        registers: Regs,
     ) -> Executed
         ensures { result ≡ exec registers (space_of self.now subject windows.now) }
     {
@@ -257,7 +256,7 @@ impl Tables {
     }
 }
 
-fn called(before: Registers, now: Registers, number: u8) -> Executed
+fn called(before: Regs, now: Regs, number: u8) -> Executed
     ensures { result ≡ (if is_built number then record { registers = now; references = 1; ending = Calls number } else not_executed before) }
 {
     if is_built(number) {

@@ -13,8 +13,8 @@ ghost use Rattle.bk_kernel.specs.Progress.{next_turn, after_turn, after_end, nex
 use crate::tables::Tables;
 use crate::turn::At;
 use bk_base::{Failed, Sink, write_all};
+use bk_process::Status9;
 use bk_report::{ReportItem, print};
-use bk_state::Status9;
 use bk_system::TypedAt;
 use std::marker::Model;
 

@@ -24,8 +24,9 @@ use bitflags::Flags;
 use bk_level::LevelTable;
 use bk_object::{Facts, Kind, Modes};
 use bk_path::Path;
+use bk_process::{Process, Status9};
 use bk_space::{Abort, Mode, Rights};
-use bk_state::{Clearance, Hold, Process, Status9};
+use bk_state::{Clearance, Hold};
 use bk_system::TypedAt;
 use std::marker::Model;
 

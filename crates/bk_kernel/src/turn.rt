@@ -4,13 +4,13 @@ ghost use Rattle.std.specs.Prelude.{◌≡◌, [], All};
 ghost use Rattle.bk_report.specs.Text.{IsAnswered};
 ghost use Rattle.bk_report.specs.declared.item.ReportItem.TheVariants.{Call};
 ghost use Rattle.bk_system.specs.First.{number_of, answer_of, settled, ended, took, taken_by, turn_of, with_status};
-ghost use Rattle.bk_state.specs.declared.process.Status9.TheVariants.{Stopped};
+ghost use Rattle.bk_process.specs.declared.status.Status9.TheVariants.{Stopped};
 ghost use Rattle.bk_kernel.specs.Items.{items_of};
 
 use crate::call::answered;
 use crate::tables::Tables;
+use bk_process::{Process, Status9};
 use bk_report::ReportItem;
-use bk_state::{Process, Status9};
 use bk_system::{Cause, Ending, Executed};
 
 /// The items of a turn, at most two, in their order.

@@ -9,8 +9,8 @@ use Rattle.bk_object.specs.Rows.{in_row}
 use Rattle.bk_object.specs.declared.Kind.{Kind}
 use Rattle.bk_object.specs.declared.Kind.TheVariants.{Directory, Segment, Mailbox, Line}
 use Rattle.bk_object.specs.declared.Facts.{Facts}
-use Rattle.bk_state.specs.declared.process.Process.{Process}
-use Rattle.bk_state.specs.declared.process.Status9.TheVariants.{Paused, Stopped}
+use Rattle.bk_process.specs.declared.process.Process.{Process}
+use Rattle.bk_process.specs.declared.status.Status9.TheVariants.{Paused, Stopped}
 use Rattle.bk_state.specs.declared.call.Call.{Call}
 use Rattle.bk_state.specs.declared.call.Call.TheVariants.{ByRule, Other}
 use Rattle.bk_state.specs.declared.call.Service.{Service}

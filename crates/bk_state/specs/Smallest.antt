@@ -1,14 +1,16 @@
 -- The smallest state with an object, a subject, a mode in a row and a current access: root alone, held by write.
-use Rattle.std.specs.Prelude.{false, List, [], ◌∷◌, None, replicate}
+use Rattle.std.specs.Prelude.{List, [], ◌∷◌, replicate}
 use Rattle.std.specs.FinMap as map
 use Rattle.std.specs.FinSet as set
 use Rattle.bk_object.specs.Modes.{Write, no_modes}
 use Rattle.bk_object.specs.declared.Kind.TheVariants.{Directory}
 use Rattle.bk_object.specs.declared.Modes.{Modes}
 use Rattle.bk_level.specs.Levels.{lowest}
+use Rattle.bk_space.specs.Registers.{registers_of}
+use Rattle.bk_space.specs.Status.{status_of}
 use Rattle.bk_space.specs.declared.Mode.TheVariants.{User}
-use Rattle.bk_state.specs.declared.process.Process.{Process}
-use Rattle.bk_state.specs.declared.process.Status9.TheVariants.{Running}
+use Rattle.bk_process.specs.NewProcess.{new_process}
+use Rattle.bk_process.specs.declared.process.Process.{Process}
 use Rattle.bk_state.specs.Checks.{only}
 use Rattle.bk_state.specs.State.{State, Object, Children}
 
@@ -19,18 +21,7 @@ abbrev pub only_root : Object
 only_root = record { facts = record { kind = Directory; blocks = 0; level = 0; quota = 1; row = only_row }; contents = Children }
 
 abbrev pub only_process : Process
-only_process = record {
-  registers = record {
-    general = replicate 6 0;
-    user = 0;
-    supervisor = 0;
-    pc = 0;
-    status = record { mode = User; previous = User; trace = false; flags = record { n = false; z = false; v = false; c = false } };
-  };
-  windows = replicate 32 None;
-  entries = replicate 8 0;
-  status = Running;
-}
+only_process = new_process (registers_of (status_of User User))
 
 abbrev pub smallest : State
 smallest = record {

@@ -13,9 +13,10 @@ use Rattle.bk_state.specs.declared.image.Hold.{Hold}
 use Rattle.bk_state.specs.declared.image.ObjectRec.{ObjectRec}
 use Rattle.bk_state.specs.declared.image.SubjectRec.{SubjectRec}
 use Rattle.bk_state.specs.declared.image.WindowRec.{WindowRec}
-use Rattle.bk_state.specs.declared.process.Clearance.{Clearance}
-use Rattle.bk_state.specs.declared.process.Process.{Process}
-use Rattle.bk_state.specs.declared.process.Status9.TheVariants.{Running}
+use Rattle.bk_state.specs.declared.clearance.Clearance.{Clearance}
+use Rattle.bk_space.specs.Status.{status_of}
+use Rattle.bk_process.specs.declared.process.Process.{Process}
+use Rattle.bk_process.specs.declared.status.Status9.TheVariants.{Running}
 use Rattle.bk_state.specs.State.{State, Object, Contents, Children, Words, Messages, Typed, Triple}
 
 -- the given words, and zeros up to 32 words a block
@@ -45,10 +46,10 @@ abbrev pub process_from : SubjectRec → Process
 process_from s = record {
   registers = record {
     general = s.regs;
-    user = s.user_sp;
     supervisor = s.super_sp;
+    user = s.user_sp;
     pc = s.pc;
-    status = record { mode = s.mode; previous = s.previous; trace = false; flags = record { n = false; z = false; v = false; c = false } };
+    ps = status_of s.mode s.previous;
   };
   windows = windows_from s.windows;
   entries = s.entries;

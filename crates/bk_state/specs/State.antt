@@ -8,8 +8,8 @@ use Rattle.bk_level.specs.Levels.{Level, level_at}
 use Rattle.bk_path.specs.Paths.{Path, path_cmp}
 use Rattle.bk_object.specs.Modes.{Mode, mode_number}
 use Rattle.bk_object.specs.declared.facts.Facts.{Facts}
-use Rattle.bk_state.specs.declared.process.Clearance.{Clearance}
-use Rattle.bk_state.specs.declared.process.Process.{Process}
+use Rattle.bk_state.specs.declared.clearance.Clearance.{Clearance}
+use Rattle.bk_process.specs.declared.process.Process.{Process}
 
 -- What an object holds: a directory nothing of its own, since its children are the paths below it; a segment its
 -- words; a mailbox the messages of four words that wait, the oldest first, and how many were lost; a line the typed

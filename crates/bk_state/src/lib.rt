@@ -3,23 +3,24 @@
 //! Model: `specs/State.antt` (the state: objects, current access set, processes), `specs/Named.antt` (who may name
 //! what), `specs/Quota.antt` (governing cells and used numbers), `specs/Secure.antt` (the secure state),
 //! `specs/Checks.antt` and `specs/Changes.antt` (the nine rules: their checks in order, and what each changes),
+//! `specs/Calls.antt` and `specs/Answers.antt` (all kernel calls: checks, answer, what each changes),
 //! `specs/Start.antt` (the state that an image stands for), `specs/FirstImage.antt` (first images).
 //! Calls: none.
-//! Proved: a secure state is there (`specs/Smallest.antt`, `law_smallest`), and the checks of each rule stand in one order
+//! Proved: a secure state is there (`specs/Smallest.antt`, `law_smallest`), and the checks of each call stand in one order
 //! (`law_order_of_checks`); the crates above prove their calls against these definitions.
-//! Stands on: `bk_base`, `bk_level`, `bk_object`, `bk_path`, `bk_quota`, `bk_space`.
+//! Stands on: `bk_base`, `bk_level`, `bk_object`, `bk_path`, `bk_process`, `bk_quota`, `bk_space`.
 #![tactic(auto)]
 
 mod call;
+mod clearance;
 mod first;
 mod image;
 mod laws;
-mod process;
 mod rule;
 
 pub use call::{Call, Service};
+pub use clearance::Clearance;
 pub use first::{FIRST_BACK, FIRST_FRONT};
 pub use image::{Hold, Holds, Image, ObjectRec, Objects, SubjectRec, Subjects, WindowRec, Windows};
 pub use laws::{law_order_of_checks, law_smallest};
-pub use process::{Clearance, Process, ProcessorStatus, Registers, Status9};
 pub use rule::Rule;

@@ -6,10 +6,10 @@ use Rattle.bk_space.specs.declared.Abort.{Abort}
 use Rattle.bk_path.specs.Paths.{Path}
 use Rattle.bk_report.specs.declared.item.ReportItem.{ReportItem}
 use Rattle.bk_report.specs.declared.item.ReportItem.TheVariants.{Call}
-use Rattle.bk_state.specs.declared.process.Process.{Process}
-use Rattle.bk_state.specs.declared.process.Registers.{Registers}
-use Rattle.bk_state.specs.declared.process.Status9.{Status9}
-use Rattle.bk_state.specs.declared.process.Status9.TheVariants.{Running, Paused, Stopped}
+use Rattle.bk_process.specs.declared.process.Process.{Process}
+use Rattle.bk_space.specs.declared.registers.Regs.{Regs}
+use Rattle.bk_process.specs.declared.status.Status9.{Status9}
+use Rattle.bk_process.specs.declared.status.Status9.TheVariants.{Running, Paused, Stopped}
 use Rattle.bk_state.specs.State.{State, Object, find, process_of}
 use Rattle.bk_system.specs.declared.first.Instruction.{Instruction}
 use Rattle.bk_system.specs.declared.first.Instruction.TheVariants.{Move, MoveImmediate, Test, Branch, BranchIfZero, KernelCall}
@@ -26,11 +26,11 @@ use Rattle.bk_system.specs.Report.{is_call, calls_in}
 
 -- ---- an instruction makes one reference or two
 
-immediate_small : (before now : Registers) (d : ℕ) (w : Result ℕ Abort) → (immediate before now d w).references ≤ 2
+immediate_small : (before now : Regs) (d : ℕ) (w : Result ℕ Abort) → (immediate before now d w).references ≤ 2
 immediate_small before now d (Ok value) = omega arith
 immediate_small before now d (Err abort) = omega arith
 
-executed_small : (before now : Registers) (space : AddrSpace) (i : Option Instruction) → (executed before now space i).references ≤ 2
+executed_small : (before now : Regs) (space : AddrSpace) (i : Option Instruction) → (executed before now space i).references ≤ 2
 executed_small before now space (Some (Move source destination)) = omega arith
 executed_small before now space (Some (MoveImmediate destination)) = immediate_small before now destination (next_word now space)
 executed_small before now space (Some (Test source)) = omega arith
@@ -43,11 +43,11 @@ executed_small before now space (Some (KernelCall number)) = by (is_built number
     by false = omega arith
 executed_small before now space None = omega arith
 
-started_small : (r : Registers) (space : AddrSpace) (w : Result ℕ Abort) → (started r space w).references ≤ 2
+started_small : (r : Regs) (space : AddrSpace) (w : Result ℕ Abort) → (started r space w).references ≤ 2
 started_small r space (Ok word) = executed_small r (past_word r) space (instruction_of word)
 started_small r space (Err abort) = omega arith
 
-exec_small : (r : Registers) (space : AddrSpace) → (exec r space).references ≤ 2
+exec_small : (r : Regs) (space : AddrSpace) → (exec r space).references ≤ 2
 unfolding exec
 exec_small r space = started_small r space (next_word r space)
 

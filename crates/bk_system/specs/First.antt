@@ -14,10 +14,10 @@ use Rattle.bk_object.specs.declared.kind.Kind.{Kind}
 use Rattle.bk_object.specs.declared.kind.Kind.TheVariants.{Directory, Segment, Mailbox, Line}
 use Rattle.bk_report.specs.declared.ReportItem.{ReportItem}
 use Rattle.bk_report.specs.declared.ReportItem.TheVariants.{Call, Fault, Byte}
-use Rattle.bk_state.specs.declared.process.Process.{Process}
-use Rattle.bk_state.specs.declared.process.Registers.{Registers}
-use Rattle.bk_state.specs.declared.process.Status9.{Status9}
-use Rattle.bk_state.specs.declared.process.Status9.TheVariants.{Running, Paused, Stopped}
+use Rattle.bk_process.specs.declared.process.Process.{Process}
+use Rattle.bk_space.specs.declared.registers.Regs.{Regs}
+use Rattle.bk_process.specs.declared.status.Status9.{Status9}
+use Rattle.bk_process.specs.declared.status.Status9.TheVariants.{Running, Paused, Stopped}
 use Rattle.bk_state.specs.State.{State, Object, Contents, Children, Words, Messages, Typed, find, facts_at, holds, process_of}
 use Rattle.bk_state.specs.Named.{passes, is_named}
 use Rattle.bk_system.specs.declared.first.Instruction.{Instruction}
@@ -61,32 +61,32 @@ cause_of Length = 2
 cause_of ReadOnly = 3
 
 -- the program counter moves past a word
-abbrev pub past_word : Registers → Registers
+abbrev pub past_word : Regs → Regs
 past_word r = record r { pc = (r.pc + 2) % 2 ^ 16 }
 
 -- N and Z of a word, V clear, and C as given
-abbrev pub with_flags : (value : ℕ) → (carry : Bool) → Registers → Registers
-with_flags value carry r = record r { status = record r.status { flags = record { n = nat_le (2 ^ 15) value; z = value == 0; v = false; c = carry } } }
+abbrev pub with_flags : (value : ℕ) → (carry : Bool) → Regs → Regs
+with_flags value carry r = record r { ps = record r.ps { flags = record { n = nat_le (2 ^ 15) value; z = value == 0; v = false; c = carry } } }
 
-abbrev pub moved : (value destination : ℕ) → Registers → Registers
-moved value destination r = with_flags value r.status.flags.c (record r { general = slice_set r.general destination value })
+abbrev pub moved : (value destination : ℕ) → Regs → Regs
+moved value destination r = with_flags value r.ps.flags.c (record r { general = slice_set r.general destination value })
 
-abbrev pub tested : (value : ℕ) → Registers → Registers
+abbrev pub tested : (value : ℕ) → Regs → Regs
 tested value r = with_flags value false r
 
 -- a signed offset in words from the program counter
-abbrev pub branched : (offset : ℕ) → Registers → Registers
+abbrev pub branched : (offset : ℕ) → Regs → Regs
 branched offset r = record r { pc = if nat_lt offset 128 then (r.pc + 2 * offset) % 2 ^ 16 else (r.pc + 2 * offset + 65024) % 2 ^ 16 }
 
-abbrev pub ran : Registers → Executed
+abbrev pub ran : Regs → Executed
 ran r = record { registers = r; references = 1; ending = Ran }
 
 -- the word at the program counter, in instruction space of the current mode
-abbrev pub next_word : Registers → AddrSpace → Result ℕ Abort
-next_word r space = read_at space r.status.mode I Word r.pc
+abbrev pub next_word : Regs → AddrSpace → Result ℕ Abort
+next_word r space = read_at space r.ps.mode I Word r.pc
 
 -- the immediate is the word after the instruction
-abbrev pub immediate : (before now : Registers) → (destination : ℕ) → Result ℕ Abort → Executed
+abbrev pub immediate : (before now : Regs) → (destination : ℕ) → Result ℕ Abort → Executed
 immediate before now destination (Ok value) = record { registers = moved value destination (past_word now); references = 2; ending = Ran }
 immediate before now destination (Err abort) = record { registers = before; references = 2; ending = Faults (cause_of abort) }
 
@@ -94,24 +94,24 @@ immediate before now destination (Err abort) = record { registers = before; refe
 abbrev pub is_built : (number : ℕ) → Bool
 is_built number = (number == 0o17) || (number == 0o20) || (number == 0o24) || (number == 0o26)
 
-abbrev pub not_executed : (before : Registers) → Executed
+abbrev pub not_executed : (before : Regs) → Executed
 not_executed before = record { registers = before; references = 1; ending = Faults not_built }
 
 -- one instruction: `before` are the registers before it, `now` those with the program counter past its word
-abbrev pub executed : (before now : Registers) → AddrSpace → Option Instruction → Executed
+abbrev pub executed : (before now : Regs) → AddrSpace → Option Instruction → Executed
 executed before now space (Some (Move source destination)) = ran (moved (slice_index now.general source) destination now)
 executed before now space (Some (MoveImmediate destination)) = immediate before now destination (next_word now space)
 executed before now space (Some (Test source)) = ran (tested (slice_index now.general source) now)
 executed before now space (Some (Branch offset)) = ran (branched offset now)
-executed before now space (Some (BranchIfZero offset)) = ran (if now.status.flags.z then branched offset now else now)
+executed before now space (Some (BranchIfZero offset)) = ran (if now.ps.flags.z then branched offset now else now)
 executed before now space (Some (KernelCall number)) = if is_built number then record { registers = now; references = 1; ending = Calls number } else not_executed before
 executed before now space None = not_executed before
 
-abbrev pub started : Registers → AddrSpace → Result ℕ Abort → Executed
+abbrev pub started : Regs → AddrSpace → Result ℕ Abort → Executed
 started r space (Ok word) = executed r (past_word r) space (instruction_of word)
 started r space (Err abort) = record { registers = r; references = 1; ending = Faults (cause_of abort) }
 
-unfoldable pub exec : Registers → AddrSpace → Executed
+unfoldable pub exec : Regs → AddrSpace → Executed
 exec r space = started r space (next_word r space)
 
 -- ---- calls

@@ -1,6 +1,6 @@
 // The types of the first processor, whose definitions stand in specs/First.antt.
 
-use bk_state::Registers;
+use bk_space::Regs;
 
 /// An instruction of the first processor. Sources and destinations are R0 to R5; offsets are signed bytes, in words.
 #[derive(Clone, Copy, PartialEq, Eq, Debug)]
@@ -24,7 +24,7 @@ pub enum Ending {
 /// What an instruction comes to: the registers after it, how many references it made, and how it ended.
 #[derive(Clone, Copy, PartialEq, Eq, Debug)]
 pub struct Executed {
-    pub registers: Registers,
+    pub registers: Regs,
     pub references: u8,
     pub ending: Ending,
 }

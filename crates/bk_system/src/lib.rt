@@ -4,7 +4,7 @@
 //! calls and a turn), `specs/Slot.antt` (typed bytes, slots and runs), `specs/Report.antt` (the report of a run).
 //! Calls: none.
 //! Proved: nothing here; the kernel and the program prove their calls against these definitions.
-//! Stands on: `bk_base`, `bk_report`, `bk_space`, `bk_state`.
+//! Stands on: `bk_base`, `bk_process`, `bk_report`, `bk_space`, `bk_state`.
 #![tactic(auto)]
 
 mod first;
