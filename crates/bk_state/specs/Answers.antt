@@ -1,5 +1,5 @@
 -- What a kernel call comes to: the answer, the values that the caller finds in its registers, and what changes.
-use Rattle.std.specs.Prelude.{ℕ, suc, ◌+◌, ◌*◌, ◌/◌, ◌%◌, min, List, [], ◌∷◌, ◌++◌, length, Option, Some, None, ◌==◌, nat_lt, slice_index, slice_set, if◌then◌else◌}
+use Rattle.std.specs.Prelude.{ℕ, suc, ◌+◌, ◌*◌, ◌/◌, ◌%◌, min, List, [], ◌∷◌, ◌++◌, length, Option, Some, None, nat_lt, slice_index, slice_set, if◌then◌else◌}
 use Rattle.std.specs.FinMap as map
 use Rattle.std.specs.FinSet as set
 use Rattle.bk_path.specs.Paths.{Path, path_cmp}
@@ -15,7 +15,7 @@ use Rattle.bk_state.specs.declared.call.Call.{Call}
 use Rattle.bk_state.specs.declared.call.Call.TheVariants.{ByRule, Other}
 use Rattle.bk_state.specs.declared.call.Service.{Service}
 use Rattle.bk_state.specs.declared.call.Service.TheVariants.{Window, Unwindow, Deposit, Send, Receive, LineOut, LineIn, Entry, Identify, Quota, Pause, SetFaultEntry, Stop}
-use Rattle.bk_state.specs.State.{State, Object, Contents, Children, Words, Messages, Typed, Triple, triple_cmp, find, facts_at, holds, clearance_of}
+use Rattle.bk_state.specs.State.{State, Object, Contents, Children, Words, Messages, Typed, triple_cmp, find, holds, clearance_of}
 use Rattle.bk_state.specs.Quota.{governing, quota_at, used}
 use Rattle.bk_state.specs.Checks.{Cause, NoCall, cause_number}
 use Rattle.bk_state.specs.Changes.{changed, changed_at}
