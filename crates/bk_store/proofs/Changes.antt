@@ -1,14 +1,16 @@
 -- What is held by paths once the access table has changed at a slot.
 use Rattle.std.proofs.Common.{◌≡◌, ℕ, ◌<◌, Bool, true, false, not, ◌&&◌, ◌||◌, ◌==◌, Option, Some, None, refl, sym, ap, ◌∙◌, arith}
-use Rattle.std.specs.Prelude.{option_map, unwrap_or}
+use Rattle.std.specs.Prelude.{option_map}
 use Rattle.std.specs.Cmp.{both_ways}
 use Rattle.std.specs.FinMap as finite
 use Rattle.std.specs.FinSet as set
 use Rattle.std.proofs.lemmas.Bool.Decides.{nat_tests}
 use Rattle.bk_object.specs.Modes.{Mode, has}
-use Rattle.bk_object.specs.declared.Facts.{Facts}
-use Rattle.bk_object.specs.declared.Slot.{Slot}
 use Rattle.bk_object.specs.declared.modes.Modes.{Modes}
+use Rattle.std.proofs.Common.{◌≢◌}
+use Rattle.bk_access.specs.Held.{modes_at}
+use Rattle.bk_access.proofs.HeldLemmas.{elsewhere-with_modes}
+use Rattle.bk_object.specs.Modes.{union, without}
 use Rattle.bk_path.specs.Paths.{Path, is_same}
 use Rattle.bk_path.specs.Orders.{same_path, is_same-itself}
 use Rattle.bk_quota.specs.Charges.{passes}
@@ -17,40 +19,18 @@ use Rattle.bk_access.proofs.HeldLemmas.{holds-added, holds-removed}
 use Rattle.bk_state.specs.State.{Triple}
 use Rattle.bk_state.proofs.Orders.{triple_total}
 use Rattle.bk_tree.specs.declared.place.Placed.{Placed}
-use Rattle.bk_tree.specs.Objects.{Objects, IsAt, slot_of}
+use Rattle.bk_tree.specs.Objects.{Objects}
 use Rattle.bk_store.specs.Stored.{triples_of}
-use Rattle.bk_store.specs.Joined.{slot_in, is_held, access_of, IsStore}
+use Rattle.bk_store.specs.Joined.{slot_in, is_held, access_of, HasSlots}
+use Rattle.bk_store.proofs.Entries.{some_same}
 use Rattle.bk_store.proofs.Triples.{in_range, subject_in, member, triples_there, triple_apart, alike}
-
-pub some_same : {A : Type 0} (x y : A) → Some x ≡ Some y → x ≡ y
-some_same x y e = ap (λ o. unwrap_or o x) e
-
--- the object whose slot was found
-pub at_slot : (tree : Objects) (path : Path) (slot : Slot) → Some slot ≡ option_map slot_of (finite.get tree path) → (facts : Facts) × IsAt tree path slot.n facts
-at_slot tree path slot h = by (finite.get tree path) refl h
-  where
-    by : (o : Option Placed) → finite.get tree path ≡ o → Some slot ≡ option_map slot_of o → (facts : Facts) × IsAt tree path slot.n facts
-    by None is h = cc
-    by (Some a) is h =
-        let same : a.slot ≡ slot.n = ap (λ (s : Slot). s.n) (sym (some_same slot (slot_of a) h)) in
-        (a.facts, is ∙ (λ i. Some (record { slot = same i; facts = a.facts })))
-
-pub none_at : (tree : Objects) (path : Path) → None ≡ option_map slot_of (finite.get tree path) → finite.get tree path ≡ None
-none_at tree path h = by (finite.get tree path) h
-  where
-    by : (o : Option Placed) → None ≡ option_map slot_of o → o ≡ None
-    by None h = refl
-    by (Some a) h = cc
-
-pub its_slot : (tree : Objects) (path : Path) (slot : ℕ) (facts : Facts) → IsAt tree path slot facts → slot_in tree path ≡ Some slot
-its_slot tree path slot facts at = ap (option_map (λ (a : Placed). a.slot)) at
 
 -- the triples that a change is about
 abbrev pub is_about : (subject : ℕ) → Path → Modes → Triple → Bool
 is_about subject path modes t = (t.0 == subject) && is_same t.1 path && has modes t.2
 
-module _ (tree : Objects) (held : Held) (keeps : IsStore tree held) (path : Path) (slot : ℕ) (at : slot_in tree path ≡ Some slot) where
-  own_test : (p : Path) (k : ℕ) → slot_in tree p ≡ Some k → (k == slot) ≡ is_same p path
+module _ (tree : Objects) (held : Held) (keeps : HasSlots tree held) (path : Path) (slot : ℕ) (at : slot_in tree path ≡ Some slot) where
+  pub own_test : (p : Path) (k : ℕ) → slot_in tree p ≡ Some k → (k == slot) ≡ is_same p path
   own_test p k is = both_ways (k == slot) (is_same p path)
       (λ e. let same : k ≡ slot = grind (arith, nat_tests, e) in
       let one : p ≡ path = keeps.own p path slot (is ∙ ap Some same) at in
@@ -114,6 +94,18 @@ module _ (tree : Objects) (held : Held) (keeps : IsStore tree held) (path : Path
           ∙ joined (in_range t.0) (is_held tree held t) (t.0 == subject) (is_same t.1 path) (has modes t.2)
           ∙ sym (set.contains-retain (access_of tree held) (λ t. not (is_about subject path modes t)) t (λ u e. alike (λ t. not (is_about subject path modes t)) t u e)
           ∙ ap (λ b. b && not (is_about subject path modes t)) (member tree held t.0 t.1 t.2))
+
+  pub others-added : (subject : ℕ) (modes : Modes) (k : ℕ) → ((p : Path) → slot_in tree p ≢ Some k) → (s : ℕ) → modes_at (added subject slot modes held) s k ≡ modes_at held s k
+  others-added subject modes k none s = elsewhere-with_modes subject slot s k (union (modes_at held subject slot) modes) held (λ both. none path (at ∙ ap Some (sym both.1)))
+
+  pub others-removed : (subject : ℕ) (modes : Modes) (k : ℕ) → ((p : Path) → slot_in tree p ≢ Some k) → (s : ℕ) → modes_at (removed subject slot modes held) s k ≡ modes_at held s k
+  others-removed subject modes k none s = elsewhere-with_modes subject slot s k (without (modes_at held subject slot) modes) held (λ both. none path (at ∙ ap Some (sym both.1)))
+
+  pub store-added : (subject : ℕ) (modes : Modes) → HasSlots tree (added subject slot modes held)
+  store-added subject modes = record { own = keeps.own; within = keeps.within; free = λ k none s. others-added subject modes k none s ∙ keeps.free k none s; places = keeps.places }
+
+  pub store-removed : (subject : ℕ) (modes : Modes) → HasSlots tree (removed subject slot modes held)
+  store-removed subject modes = record { own = keeps.own; within = keeps.within; free = λ k none s. others-removed subject modes k none s ∙ keeps.free k none s; places = keeps.places }
 
 -- of an object that isn't there nothing is held
 pub access-none : (tree : Objects) (held : Held) (path : Path) → finite.get tree path ≡ None → (subject : ℕ) (modes : Modes) →

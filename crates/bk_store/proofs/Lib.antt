@@ -1,6 +1,12 @@
 pub mod Triples
+pub mod Entries
 pub mod Changes
 pub mod Rows
 pub mod Cells
 pub mod Looked
 pub mod Tested
+pub mod Waits
+pub mod Contents
+pub mod Written
+pub mod Lists
+pub mod Stands

@@ -1,15 +1,23 @@
--- The tables of a store, taken together: the tree names objects by their paths, the access table by their slots.
-use Rattle.std.specs.Prelude.{◌≡◌, ℕ, zero, suc, ◌<◌, Bool, List, [], ◌∷◌, map, flat_map, Option, Some, option_map}
+-- The tables of a store, taken together: the tree names objects by their paths, all other tables by their slots, and
+-- typed bytes by the number of their line.
+use Rattle.std.specs.Prelude.{◌≡◌, ◌≢◌, ℕ, zero, suc, ◌+◌, ◌≤◌, ◌<◌, Bool, List, [], ◌∷◌, length, map, flat_map, sum_by, Option, Some, None, option_map, slice_index_or}
 use Rattle.std.specs.FinMap as finite
 use Rattle.std.specs.FinSet as set
 use Rattle.bk_level.specs.Levels.{Level}
-use Rattle.bk_path.specs.Paths.{Path}
-use Rattle.bk_quota.specs.Charges.{passes}
-use Rattle.bk_access.specs.Held.{Held, holds}
+use Rattle.bk_path.specs.Paths.{Path, path_cmp}
+use Rattle.bk_quota.specs.Charges.{passes, quota_in}
+use Rattle.bk_access.specs.Held.{Held, holds, modes_at}
+use Rattle.bk_object.specs.declared.Facts.{Facts}
+use Rattle.bk_object.specs.declared.kind.Kind.{Kind}
+use Rattle.bk_object.specs.declared.kind.Kind.TheVariants.{Directory, Segment, Mailbox, Line}
+use Rattle.bk_object.specs.Modes.{no_modes}
+use Rattle.bk_frames.specs.Extents.{Extent, Standing, sizes_of, taken_in, IsApart, AreApart}
+use Rattle.bk_queue.specs.Queues.{Mail, Typed}
+use Rattle.bk_tree.specs.declared.place.Placed.{Placed}
 use Rattle.bk_tree.specs.Objects.{Objects, facts_of}
 use Rattle.bk_state.specs.Maps.{map_values}
 use Rattle.bk_state.specs.State.{Triple, triple_cmp}
-use Rattle.bk_store.specs.Stored.{Stored, all_modes}
+use Rattle.bk_store.specs.Stored.{Waiting, Queue, NoQueue, OfMailbox, OfLine, Entry, Stored, all_modes, extent_in}
 
 -- the slot of the object at the path
 abbrev pub slot_in : Objects → Path → Option ℕ
@@ -32,15 +40,114 @@ all_triples tree = flat_map (λ subject. flat_map (λ path. map (λ mode. (subje
 abbrev pub access_of : Objects → Held → set.FinSet triple_cmp
 access_of tree held = set.retain (set.from_list (all_triples tree)) (is_held tree held)
 
-abbrev pub store_of : List Level → (lines : ℕ) → Objects → Held → Stored
-store_of levels lines tree held = record {
+-- the tables of contents: where segments stand, the mailbox of each slot, the typed bytes of each line
+pub record Tables : Type 0 where
+  pub frames : Standing
+  pub mailboxes : List Waiting
+  pub inputs : List (List ℕ)
+
+abbrev pub waiting_of : Mail → Waiting
+waiting_of mail = record { messages = mail.waiting; lost = mail.lost }
+
+abbrev pub bytes_of : Typed → List ℕ
+bytes_of typed = typed.bytes
+
+abbrev pub tables_of : Standing → List Mail → List Typed → Tables
+tables_of frames mailboxes inputs = record { frames = frames; mailboxes = map waiting_of mailboxes; inputs = map bytes_of inputs }
+
+abbrev pub no_mail : Waiting
+no_mail = record { messages = []; lost = 0 }
+
+-- what waits in an object with that slot and kind
+abbrev pub queue_at : Tables → (slot : ℕ) → Kind → Queue
+queue_at tables slot Directory = NoQueue
+queue_at tables slot Segment = NoQueue
+queue_at tables slot Mailbox = OfMailbox (slice_index_or tables.mailboxes slot no_mail)
+queue_at tables slot (Line n) = OfLine (slice_index_or tables.inputs n [])
+
+abbrev pub entry_of : Tables → Placed → Entry
+entry_of tables placed = record {
+  facts = placed.facts;
+  extent = finite.get tables.frames.extents placed.slot;
+  queue = queue_at tables placed.slot placed.facts.kind;
+}
+
+abbrev pub entries_of : Objects → Tables → finite.FinMap path_cmp Entry
+entries_of tree tables = map_values (entry_of tables) tree
+
+abbrev pub store_of : List Level → (lines : ℕ) → Objects → Held → Tables → Stored
+store_of levels lines tree held tables = record {
   levels = levels;
   lines = lines;
-  objects = map_values facts_of tree;
+  objects = entries_of tree tables;
   access = access_of tree held;
 }
 
--- each path has a slot of its own, for which the access table has a place
-pub record IsStore (tree : Objects) (held : Held) : Type 0 where
+-- ---- what a store keeps
+
+-- each path has a slot of its own, for which the access table has a place; of other slots nobody holds anything; there
+-- are as many slots as root's quota
+pub record HasSlots (tree : Objects) (held : Held) : Type 0 where
   pub own : (p q : Path) (slot : ℕ) → slot_in tree p ≡ Some slot → slot_in tree q ≡ Some slot → p ≡ q
   pub within : (p : Path) (slot : ℕ) → slot_in tree p ≡ Some slot → slot < held.slots
+  pub free : (slot : ℕ) → ((p : Path) → slot_in tree p ≢ Some slot) → (s : ℕ) → modes_at held s slot ≡ no_modes
+  pub places : held.slots ≡ quota_in facts_of tree []
+
+-- the blocks of a segment
+abbrev pub blocks_of : Kind → (blocks : ℕ) → Option ℕ
+blocks_of Directory blocks = None
+blocks_of Segment blocks = Some blocks
+blocks_of Mailbox blocks = None
+blocks_of (Line n) blocks = None
+
+abbrev pub segment_blocks : Facts → Option ℕ
+segment_blocks facts = blocks_of facts.kind facts.blocks
+
+abbrev pub or_zero : Option ℕ → ℕ
+or_zero None = 0
+or_zero (Some n) = n
+
+-- the blocks that an object's words take
+abbrev pub size_of : Facts → ℕ
+size_of facts = or_zero (segment_blocks facts)
+
+-- a segment has its blocks at its slot, and nothing stands for all else; segments stand in blocks 64 to 3,967, apart
+pub record HasExtents (tree : Objects) (slots : ℕ) (frames : Standing) : Type 0 where
+  pub sizes : (p : Path) (a : Placed) → finite.get tree p ≡ Some a → finite.get (sizes_of frames) a.slot ≡ segment_blocks a.facts
+  pub unowned : (slot : ℕ) → ((p : Path) → slot_in tree p ≢ Some slot) → finite.get (sizes_of frames) slot ≡ None
+  pub taken : taken_in frames ≡ sum_by (λ e. size_of e.1.facts) (finite.entries tree)
+  pub apart : IsApart frames
+  pub first : frames.first ≡ 64
+  pub blocks : frames.blocks ≡ 3904
+  pub places : frames.slots ≡ slots
+
+-- there is a mailbox for each slot and a list of bytes for each line; a line is below the number of lines, and no two
+-- objects have one line
+pub record HasQueues (lines : ℕ) (tree : Objects) (slots : ℕ) (tables : Tables) : Type 0 where
+  pub mailboxes : length tables.mailboxes ≡ slots
+  pub inputs : length tables.inputs ≡ lines
+  pub within : (p : Path) (a : Placed) (n : ℕ) → finite.get tree p ≡ Some a → a.facts.kind ≡ Line n → n < lines
+  pub own : (p q : Path) (a b : Placed) (n : ℕ) → finite.get tree p ≡ Some a → finite.get tree q ≡ Some b → a.facts.kind ≡ Line n → b.facts.kind ≡ Line n → p ≡ q
+
+pub record IsStore (lines : ℕ) (tree : Objects) (held : Held) (tables : Tables) : Type 0 where
+  pub slots : HasSlots tree held
+  pub extents : HasExtents tree held.slots tables.frames
+  pub queues : HasQueues lines tree held.slots tables
+
+-- ---- what follows for the value
+
+-- where an object's words stand and what waits in it are as its kind says
+abbrev pub FitsKind : Kind → (blocks : ℕ) → Option Extent → Queue → Type 0
+FitsKind Directory blocks extent queue = (extent ≡ None) × (queue ≡ NoQueue)
+FitsKind Segment blocks extent queue = (option_map (λ e. e.blocks) extent ≡ Some blocks) × (queue ≡ NoQueue)
+FitsKind Mailbox blocks extent queue = (extent ≡ None) × ((waiting : Waiting) × (queue ≡ OfMailbox waiting))
+FitsKind (Line n) blocks extent queue = (extent ≡ None) × ((bytes : List ℕ) × (queue ≡ OfLine bytes))
+
+-- each object has what its kind says
+abbrev pub HaveKinds : Stored → Type 0
+HaveKinds v = (path : Path) (e : Entry) → finite.get v.objects path ≡ Some e → FitsKind e.facts.kind e.facts.blocks e.extent e.queue
+
+-- segments stand within blocks 64 to 3,967, and no two have a block in common
+pub record AreExtentsApart (v : Stored) : Type 0 where
+  pub within : (path : Path) (e : Extent) → extent_in v path ≡ Some e → (64 ≤ e.first) × (e.first + e.blocks ≤ 3968)
+  pub apart : (p q : Path) (e f : Extent) → extent_in v p ≡ Some e → extent_in v q ≡ Some f → p ≢ q → AreApart e f

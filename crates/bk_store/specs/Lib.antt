@@ -1,2 +1,4 @@
 pub mod Stored
+pub mod Codes
 pub mod Joined
+pub mod Stands

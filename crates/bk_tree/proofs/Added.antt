@@ -1,17 +1,18 @@
 -- A map with one object more: what is in use rises by its charge, in the cell that governs its parent.
-use Rattle.std.proofs.Common.{◌≡◌, ◌≢◌, ℕ, ◌+◌, ◌≤◌, Bool, true, false, cond, List, [], ◌∷◌, Option, Some, None, refl, sym, ap, ◌∙◌, subst, arith}
+use Rattle.std.proofs.Common.{◌≡◌, ◌≢◌, ℕ, ◌+◌, ◌≤◌, Bool, true, false, cond, [], ◌∷◌, Option, Some, None, refl, sym, ap, ◌∙◌, subst, arith}
 use Rattle.std.specs.Prelude.{if◌then◌else◌}
 use Rattle.std.specs.FinMap.{get, insert, get-insert, entries}
 use Rattle.std.specs.Ordering.{eq_by_cmp}
-use Rattle.std.proofs.lemmas.List.Sums.{sum_by-cons}
 use Rattle.bk_path.specs.Paths.{Path, path_cmp, is_same, parent}
 use Rattle.bk_path.specs.Orders.{path_total, path_apart, same_path}
 use Rattle.bk_quota.specs.Charges.{charge_of, level_in, quota_in, is_upgraded_in, governing_in, share_in, used_in}
 use Rattle.bk_tree.specs.declared.place.Placed.{Placed}
 use Rattle.bk_tree.specs.Objects.{Objects, facts_of}
 use Rattle.bk_tree.specs.Kept.{has_cell, HasDirectory, IsClosed, IsKept}
-use Rattle.bk_tree.proofs.Totals.{part, total_of, total-le, total-alike, total-insert}
+use Rattle.bk_tree.proofs.Totals.{part, total-le, total-alike, total-insert}
 use Rattle.bk_tree.proofs.Found.{some_same, tied_path}
+use Rattle.bk_tree.proofs.Sums.{zeros}
+use Rattle.bk_tree.proofs.Room as room
 use Rattle.bk_tree.proofs.Smaller.{IsSmaller, quota_at, governing-same, level-same, has_cell-same, share-same}
 
 pub apart_paths : (a b : Path) → a ≢ b → is_same a b ≡ false
@@ -21,20 +22,9 @@ apart_paths a b apart = by (is_same a b) refl
     by true same = absurd (apart (same_path a b same))
     by false same = refl
 
-pub zeros : (es : List (Path × Placed)) → total_of (λ q x. 0) es ≡ 0
-zeros [] = refl
-zeros (e ∷ es) = omega (arith, zeros es, sum_by-cons (λ (e : Path × Placed). 0) e es)
-
 -- the cell that governs a directory that is there is there
 pub governing_there : (m : Objects) → IsClosed m → (q : Path) (b : Placed) → get m q ≡ Some b → (c : Placed) × (get m (governing_in facts_of m q) ≡ Some c)
-governing_there m closed [] b h = (b, h)
-governing_there m closed (e ∷ p) b h =
-    let (d, hd, kind) = closed e p b h in
-    by (is_upgraded_in facts_of m (e ∷ p)) (governing_there m closed p d hd)
-  where
-    by : (t : Bool) → (c : Placed) × (get m (governing_in facts_of m p) ≡ Some c) → (c : Placed) × (get m (if t then e ∷ p else governing_in facts_of m p) ≡ Some c)
-    by true rest = (b, h)
-    by false rest = rest
+governing_there m closed = room.governing_there facts_of m (λ e p b h. let (d, hd, kind) = closed e p b h in (d, hd))
 
 -- a path that isn't there is no cell of any object's
 pub used_free : (m : Objects) → IsClosed m → (path : Path) → get m path ≡ None → used_in facts_of m path ≡ 1

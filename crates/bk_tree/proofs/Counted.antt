@@ -68,7 +68,7 @@ governing_within m kept path there = by (get m path) refl there
     by None is h = cc
     by (Some a) is h =
         let (c, hc) = governing_there m kept.parents path a is in
-        let most = kept.within (governing_in facts_of m path) c hc (governing-has_cell m path) in
+        let most = kept.within (governing_in facts_of m path) c hc (governing-has_cell facts_of m path) in
         let quota = quota_at m (governing_in facts_of m path) c hc in
         omega (arith, most, quota)
 

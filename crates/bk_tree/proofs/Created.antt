@@ -2,7 +2,7 @@
 use Rattle.std.proofs.Common.{◌≡◌, ◌≢◌, ◌⊎◌, inl, inr, ℕ, ◌<◌, ◌≤◌, Bool, true, false, cond, not, ◌&&◌, ◌==◌, List, [], ◌∷◌, length, Option, Some, None, refl, sym, ap, ◌∙◌, subst, arith, set, length-set}
 use Rattle.std.specs.Prelude.{slice_get, if◌then◌else◌, IsNone, IsSome, IsTrue, IfNone, IfSome, is_some, ◌↔◌}
 use Rattle.std.specs.Ordering.{eq_by_cmp}
-use Rattle.std.specs.FinMap.{get, insert, get-insert, same_map}
+use Rattle.std.specs.FinMap.{get, insert, entries, get-insert, same_map, len-entries}
 use Rattle.std.proofs.lemmas.Option.{slice_get_within}
 use Rattle.std.proofs.lemmas.Bool.Decides.{nat_tests}
 use Rattle.bk_object.specs.declared.Facts.{Facts}
@@ -23,7 +23,8 @@ use Rattle.bk_tree.proofs.Distinct.{total_of-from_entries}
 use Rattle.bk_tree.proofs.Found.{tied_path, tied-itself, is_there}
 use Rattle.bk_tree.proofs.Smaller.{charge_by, charge_is, level_at, upgraded_at}
 use Rattle.bk_tree.proofs.Added.{kept-added, still_there}
-use Rattle.bk_tree.proofs.Room.{room}
+use Rattle.bk_tree.proofs.Fitting.{objects_kept}
+use Rattle.bk_tree.proofs.Sums.{ones}
 use Rattle.bk_tree.proofs.Changed.{same_or_not, set-same, set-other, held, held_path, elsewhere}
 use Rattle.bk_tree.proofs.Counted.{distinct_entries, full_total}
 
@@ -65,11 +66,13 @@ some_free places tree (e ∷ p) facts below free above fit fits None full =
     let (root, is) = tree.rooted in
     let top = is_there places tree.apart 0 (record { path = []; facts = root }) is.first in
     let still = still_there (tree_of places) tree.kept e p (record { slot = 0; facts = facts }) free above [] (record { slot = 0; facts = root }) top in
-    let most = room (insert (tree_of places) (e ∷ p) (record { slot = 0; facts = facts })) after (record { slot = 0; facts = root }) still in
+    let most = objects_kept (insert (tree_of places) (e ∷ p) (record { slot = 0; facts = facts })) after (record { slot = 0; facts = root }) still in
     let more = total-insert path_cmp path_apart path_total (λ q x. 1) (tree_of places) (e ∷ p) (record { slot = 0; facts = facts }) free in
     let whole = total_of-from_entries path_cmp path_apart path_total (λ q x. 1) (entries_from 0 places) (distinct_entries 0 places tree.apart) in
     let all = full_total 0 places full in
-    absurd (omega (arith, most, more, whole, all, is.quota))
+    let count = ones (entries (insert (tree_of places) (e ∷ p) (record { slot = 0; facts = facts }))) in
+    let long = len-entries (insert (tree_of places) (e ∷ p) (record { slot = 0; facts = facts })) in
+    absurd (omega (arith, most, long, count, more, whole, all, is.quota))
 
 -- a free place takes an object
 module _ (places : List (Option Object)) (tree : IsTree places) (k : ℕ) (p : Path) (f : Facts) (at : slice_get places k ≡ Some None) (free : get (tree_of places) p ≡ None) where

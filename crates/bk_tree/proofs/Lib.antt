@@ -1,13 +1,15 @@
 pub mod IsDistinct
 pub mod Totals
+pub mod Sums
 pub mod Distinct
 pub mod Found
 pub mod Smaller
+pub mod Room
 pub mod Added
 pub mod Keeping
-pub mod Room
 pub mod Changed
 pub mod Leaves
 pub mod Counted
+pub mod Fitting
 pub mod Created
 pub mod Tested

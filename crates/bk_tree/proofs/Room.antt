@@ -1,161 +1,228 @@
--- Where no cell is overdrawn, there are no more objects than root's quota.
-use Rattle.std.proofs.Common.{◌≡◌, ℕ, ◌+◌, ◌≤◌, Bool, true, false, cond, List, [], ◌∷◌, Option, Some, None, refl, sym, ap, ◌∙◌, arith}
-use Rattle.std.specs.Prelude.{sum_by, unwrap_or, if◌then◌else◌}
-use Rattle.std.specs.FinMap.{get, find, entries, get-entries, from_entries, get-from_entries}
+-- Where no cell is overdrawn, what all objects need fits root's quota: over a map from paths to values that have facts.
+use Rattle.std.proofs.Common.{◌≡◌, ℕ, ◌+◌, ◌≤◌, Bool, true, false, cond, not, ◌&&◌, ◌||◌, ◌==◌, List, [], ◌∷◌, Option, Some, None, refl, sym, ap, ◌∙◌, arith}
+use Rattle.std.specs.Prelude.{sum_by, unwrap_or, option_map, if◌then◌else◌}
+use Rattle.std.specs.FinMap.{FinMap, get, entries, len, len-entries}
 use Rattle.std.specs.Ordering.{eq_by_cmp}
-use Rattle.std.proofs.lemmas.List.Sums.{sum_by-cons}
-use Rattle.bk_path.specs.Paths.{Path, path_cmp}
+use Rattle.bk_object.specs.declared.Facts.{Facts}
+use Rattle.bk_object.specs.declared.Kind.{Kind}
+use Rattle.bk_object.specs.declared.Kind.TheVariants.{Directory, Segment, Mailbox, Line}
+use Rattle.bk_object.specs.Kinds.{is_directory}
+use Rattle.bk_path.specs.Paths.{Path, path_cmp, is_root}
 use Rattle.bk_path.specs.Orders.{path_total, path_apart, is_same-itself}
-use Rattle.bk_quota.specs.Charges.{charge_of, level_in, is_upgraded_in, governing_in, share_in}
-use Rattle.bk_tree.specs.declared.place.Placed.{Placed}
-use Rattle.bk_tree.specs.Objects.{Objects, facts_of}
-use Rattle.bk_tree.specs.Kept.{has_cell, IsKept}
-use Rattle.bk_tree.proofs.Totals.{part, total_of, total-le}
-use Rattle.bk_tree.proofs.Distinct.{total_of-from_entries}
-use Rattle.bk_tree.proofs.Found.{tied_path}
-use Rattle.bk_tree.proofs.Smaller.{charge_kind, charge_is, charge_by, level_at, upgraded_at}
-use Rattle.bk_tree.proofs.Added.{governing_there}
+use Rattle.bk_quota.specs.Charges.{charge_of, passes, facts_in, level_in, is_upgraded_in, governing_in, share_in, used_in}
+use Rattle.bk_tree.specs.Needs.{need_by, need_of, needs_in, core_by, blocks_of, blocks_in}
+use Rattle.bk_tree.proofs.Totals.{total_of}
+use Rattle.bk_tree.proofs.Sums.{zeros, ones, plus, swap_sums, found_le, pointwise, only_le}
+use Rattle.bk_tree.proofs.Smaller.{charge_kind, charge_is, charge_by}
 
-abbrev pub Entry : Type 0
-Entry = Path × Placed
+no_and : (b : Bool) → (b && false) ≡ true → ⊥
+no_and true h = cc
+no_and false h = cc
 
--- sums over a list
-plus : (f g : Entry → ℕ) (es : List Entry) → sum_by (λ e. f e + g e) es ≡ sum_by f es + sum_by g es
-plus f g [] = refl
-plus f g (e ∷ es) = omega (arith, plus f g es, sum_by-cons (λ e. f e + g e) e es, sum_by-cons f e es, sum_by-cons g e es)
+first_and : (a b : Bool) → (a && b) ≡ true → a ≡ true
+first_and true b h = refl
+first_and false b h = cc
 
-swap_sums : (s : Entry → Entry → ℕ) (cs os : List Entry) → sum_by (λ c. sum_by (λ o. s c o) os) cs ≡ sum_by (λ o. sum_by (λ c. s c o) cs) os
-swap_sums s [] os = sym (zeros os)
-  where
-    zeros : (os : List Entry) → sum_by (λ o. 0) os ≡ 0
-    zeros [] = refl
-    zeros (o ∷ os) = omega (arith, zeros os, sum_by-cons (λ (o : Entry). 0) o os)
-swap_sums s (c ∷ cs) os =
-    let rest = swap_sums s cs os in
-    let here = sum_by-cons (λ c. sum_by (λ o. s c o) os) c cs in
-    let split = plus (λ o. s c o) (λ o. sum_by (λ c. s c o) cs) os in
-    let same : sum_by (λ o. sum_by (λ c. s c o) (c ∷ cs)) os ≡ sum_by (λ o. s c o + sum_by (λ c. s c o) cs) os = alike os in
-    omega (arith, rest, here, split, same)
-  where
-    alike : (os : List Entry) → sum_by (λ o. sum_by (λ c. s c o) (c ∷ cs)) os ≡ sum_by (λ o. s c o + sum_by (λ c. s c o) cs) os
-    alike [] = refl
-    alike (o ∷ os) = omega (arith, alike os, sum_by-cons (λ o. sum_by (λ c. s c o) (c ∷ cs)) o os, sum_by-cons (λ o. s c o + sum_by (λ c. s c o) cs) o os, sum_by-cons (λ c. s c o) c cs)
+-- an upgraded directory is charged its quota
+upgraded_charge : (f : Facts) (above : Option Facts) → (is_directory f.kind && passes (λ (a : Facts). not (a.level == f.level)) above) ≡ true →
+    charge_of f (unwrap_or (option_map (λ (a : Facts). a.level) above) 0) ≡ f.quota
+upgraded_charge f None up = absurd (no_and (is_directory f.kind) up)
+upgraded_charge f (Some a) up = charge_is f.kind f a.level ∙ charge_kind f.kind f.blocks f.level f.quota a.level up
 
--- one that is found is no more than all
-found_le : (f : Path → Placed → ℕ) (k : Path) (x : Placed) (es : List Entry) → find path_cmp k es ≡ Some x → f k x ≤ sum_by (λ e. f e.0 e.1) es
-found_le f k x [] h = cc
-found_le f k x (e ∷ es) h = by (eq_by_cmp path_cmp k e.0) refl h (found_le f k x es)
-  where
-    by : (b : Bool) → eq_by_cmp path_cmp k e.0 ≡ b → cond b (Some e.1) (find path_cmp k es) ≡ Some x → (find path_cmp k es ≡ Some x → f k x ≤ sum_by (λ e. f e.0 e.1) es) → f k x ≤ sum_by (λ e. f e.0 e.1) (e ∷ es)
-    by true same h rest =
-        let one : f k x ≡ f e.0 e.1 = (λ i. f (tied_path k e.0 same i) (unwrap_or (sym h i) x)) in
-        omega (arith, one, sum_by-cons (λ (e : Entry). f e.0 e.1) e es)
-    by false same h rest = omega (arith, rest h, sum_by-cons (λ (e : Entry). f e.0 e.1) e es)
+need_directory : (kind : Kind) (blocks : ℕ) → is_directory kind ≡ true → need_by kind blocks ≡ 1
+need_directory Directory blocks h = refl
+need_directory Segment blocks h = cc
+need_directory Mailbox blocks h = cc
+need_directory (Line n) blocks h = cc
 
--- what governs has a cell
-pub governing-has_cell : (m : Objects) (p : Path) → has_cell m (governing_in facts_of m p) ≡ true
-governing-has_cell m [] = refl
-governing-has_cell m (e ∷ p) = by (is_upgraded_in facts_of m (e ∷ p)) refl (governing-has_cell m p)
-  where
-    by : (b : Bool) → is_upgraded_in facts_of m (e ∷ p) ≡ b → has_cell m (governing_in facts_of m p) ≡ true → has_cell m (if b then e ∷ p else governing_in facts_of m p) ≡ true
-    by true is rest = is
-    by false is rest = rest
+-- what is charged is needed
+need_le : (kind : Kind) (blocks level quota above : ℕ) → 1 ≤ charge_by kind blocks level quota above → need_by kind blocks ≤ charge_by kind blocks level quota above
+need_le Directory blocks level quota above some = some
+need_le Segment blocks level quota above some = omega arith
+need_le Mailbox blocks level quota above some = omega arith
+need_le (Line n) blocks level quota above some = omega arith
 
-module _ (m : Objects) (kept : IsKept m) (root : Placed) (top : get m [] ≡ Some root) where
-  abbrev es : List Entry
-  es = entries m
+need_some : (kind : Kind) (blocks level quota above : ℕ) → 1 ≤ charge_by kind blocks level quota above → 1 ≤ need_by kind blocks
+need_some Directory blocks level quota above some = omega arith
+need_some Segment blocks level quota above some = some
+need_some Mailbox blocks level quota above some = omega arith
+need_some (Line n) blocks level quota above some = omega arith
 
-  -- what an object takes from a cell, if the place has one
-  abbrev taken_by : Entry → Entry → ℕ
-  taken_by c o = cond (has_cell m c.0) (share_in facts_of m c.0 o.0 o.1.facts) 0
+core_le : (kind : Kind) (blocks : ℕ) → core_by kind blocks ≤ need_by kind blocks
+core_le Directory blocks = omega arith
+core_le Segment blocks = omega arith
+core_le Mailbox blocks = omega arith
+core_le (Line n) blocks = omega arith
 
-  abbrev cell_at : Path → Placed → ℕ
-  cell_at q x = cond (has_cell m q) 1 0
+core_directory : (kind : Kind) (blocks : ℕ) → is_directory kind ≡ true → core_by kind blocks ≡ 0
+core_directory Directory blocks h = refl
+core_directory Segment blocks h = cc
+core_directory Mailbox blocks h = cc
+core_directory (Line n) blocks h = cc
 
-  abbrev limit_at : Path → Placed → ℕ
-  limit_at q x = cond (has_cell m q) x.facts.quota 0
+module _ {X : Type 0} (facts_of : X → Facts) (m : FinMap path_cmp X) where
+  -- root and each upgraded directory have a cell
+  abbrev pub has_cell_in : Path → Bool
+  has_cell_in path = is_root path || is_upgraded_in facts_of m path
 
-  abbrev taken_at : Path → Placed → ℕ
-  taken_at q x = sum_by (λ o. taken_by (q, x) o) es
-
-  abbrev charge_at : Path → Placed → ℕ
-  charge_at [] x = 0
-  charge_at (e ∷ p) x = charge_of x.facts (level_in facts_of m p)
-
-  abbrev root_at : Path → Placed → ℕ
-  root_at [] x = x.facts.quota
-  root_at (e ∷ p) x = 0
-
-  -- some cell is charged for each object
-  charged : (q : Path) (x : Placed) → get m q ≡ Some x → charge_at q x ≤ sum_by (λ c. taken_by c (q, x)) es
-  charged [] x h = omega arith
-  charged (e ∷ p) x h =
-      let (d, hd, kind) = kept.parents e p x h in
-      let (c, hc) = governing_there m kept.parents p d hd in
-      let cell : Path = governing_in facts_of m p in
-      let value : taken_by (cell, c) (e ∷ p, x) ≡ charge_of x.facts (level_in facts_of m p) =
-      (λ i. cond (governing-has_cell m p i) (cond (is_same-itself (governing_in facts_of m p) i) (charge_of x.facts (level_in facts_of m p)) 0) 0) in
-      omega (arith, value, found_le (λ q y. taken_by (q, y) (e ∷ p, x)) (governing_in facts_of m p) c es (sym (get-entries m (governing_in facts_of m p)) ∙ hc))
-
-  -- no cell is overdrawn
-  within_limit : (q : Path) (x : Placed) → get m q ≡ Some x → cell_at q x + taken_at q x ≤ limit_at q x
-  within_limit q x h = by (has_cell m q) refl
+  -- what governs has a cell
+  pub governing-has_cell : (p : Path) → has_cell_in (governing_in facts_of m p) ≡ true
+  governing-has_cell [] = refl
+  governing-has_cell (e ∷ p) = by (is_upgraded_in facts_of m (e ∷ p)) refl (governing-has_cell p)
     where
-      none : (os : List Entry) → sum_by (λ o. 0) os ≡ 0
-      none [] = refl
-      none (o ∷ os) = omega (arith, none os, sum_by-cons (λ (o : Entry). 0) o os)
+      by : (b : Bool) → is_upgraded_in facts_of m (e ∷ p) ≡ b → has_cell_in (governing_in facts_of m p) ≡ true → has_cell_in (if b then e ∷ p else governing_in facts_of m p) ≡ true
+      by true is rest = is
+      by false is rest = rest
 
-      by : (b : Bool) → has_cell m q ≡ b → cond b 1 0 + sum_by (λ o. cond b (share_in facts_of m q o.0 o.1.facts) 0) es ≤ cond b x.facts.quota 0
-      by true is = kept.within q x h is
-      by false is = omega (arith, none es)
+  abbrev pub HasParents : Type 0
+  HasParents = (e : ℕ) (p : Path) (x : X) → get m (e ∷ p) ≡ Some x → (d : X) × (get m p ≡ Some d)
 
-  upgraded_charge : (e : ℕ) (p : Path) (x : Placed) → get m (e ∷ p) ≡ Some x → is_upgraded_in facts_of m (e ∷ p) ≡ true → charge_of x.facts (level_in facts_of m p) ≡ x.facts.quota
-  upgraded_charge e p x h up =
-      let (d, hd, kind) = kept.parents e p x h in
-      charge_is x.facts.kind x.facts (level_in facts_of m p)
-      ∙ ap (charge_by x.facts.kind x.facts.blocks x.facts.level x.facts.quota) (level_at m p d hd)
-      ∙ charge_kind x.facts.kind x.facts.blocks x.facts.level x.facts.quota d.facts.level (sym (upgraded_at m e p x d h hd) ∙ up)
-
-  each_one : (q : Path) (x : Placed) → get m q ≡ Some x → 1 + limit_at q x ≤ cell_at q x + charge_at q x + root_at q x
-  each_one [] x h = omega arith
-  each_one (e ∷ p) x h = by (is_upgraded_in facts_of m (e ∷ p)) refl
+  -- the cell that governs a directory that is there is there
+  pub governing_there : HasParents → (q : Path) (x : X) → get m q ≡ Some x → (c : X) × (get m (governing_in facts_of m q) ≡ Some c)
+  governing_there parents [] x h = (x, h)
+  governing_there parents (e ∷ p) x h =
+      let (d, hd) = parents e p x h in
+      by (is_upgraded_in facts_of m (e ∷ p)) (governing_there parents p d hd)
     where
-      by : (b : Bool) → is_upgraded_in facts_of m (e ∷ p) ≡ b → 1 + cond b x.facts.quota 0 ≤ cond b 1 0 + charge_of x.facts (level_in facts_of m p) + 0
-      by true is = omega (arith, upgraded_charge e p x h is)
-      by false is = omega (arith, kept.charges e p x h)
+      by : (t : Bool) → (c : X) × (get m (governing_in facts_of m p) ≡ Some c) → (c : X) × (get m (if t then e ∷ p else governing_in facts_of m p) ≡ Some c)
+      by true rest = (x, h)
+      by false rest = rest
 
-  pointwise : (f g : Path → Placed → ℕ) → ((q : Path) (x : Placed) → get m q ≡ Some x → f q x ≤ g q x) → total_of f es ≤ total_of g es
-  pointwise f g each = total-le path_cmp path_apart path_total f g m m (λ q. by q (get m q) refl)
-    where
-      by : (q : Path) (o : Option Placed) → get m q ≡ o → part f q o ≤ part g q o
-      by q None h = omega arith
-      by q (Some x) h = each q x h
+  -- root is there, parents are, each object is charged something, and no cell is overdrawn
+  module _ (root : X) (top : get m [] ≡ Some root) (parents : HasParents)
+      (charges : (e : ℕ) (p : Path) (x : X) → get m (e ∷ p) ≡ Some x → 1 ≤ charge_of (facts_of x) (level_in facts_of m p))
+      (within : (q : Path) (x : X) → get m q ≡ Some x → has_cell_in q ≡ true → used_in facts_of m q ≤ (facts_of x).quota) where
+    abbrev es : List (Path × X)
+    es = entries m
 
-  root_total : total_of root_at es ≤ root.facts.quota
-  root_total =
-      let alone : Objects = from_entries (([], root) ∷ []) in
-      let less = total-le path_cmp path_apart path_total root_at root_at m (from_entries (([], root) ∷ [])) (λ q. by q (get m q) refl) in
-      let whole = total_of-from_entries path_cmp path_apart path_total root_at (([], root) ∷ []) (refl, tt) in
-      let one = sum_by-cons (λ (e : Entry). root_at e.0 e.1) ([], root) [] in
-      omega (arith, less, whole, one)
-    where
-      by : (q : Path) (o : Option Placed) → get m q ≡ o → part root_at q o ≤ part root_at q (get (from_entries {R = path_cmp} (([], root) ∷ [])) q)
-      by q None h = omega arith
-      by [] (Some x) h =
-          let is : get (from_entries {R = path_cmp} (([], root) ∷ [])) [] ≡ Some x = get-from_entries path_total (([], root) ∷ []) [] ∙ sym top ∙ h in
-          let same : part root_at [] (get (from_entries {R = path_cmp} (([], root) ∷ [])) []) ≡ x.facts.quota = ap (part root_at []) is in
-          omega (arith, same)
-      by (e ∷ p) (Some x) h = omega arith
+    -- what an object takes from a cell, if the path has one
+    abbrev taken_by : Path → Path × X → ℕ
+    taken_by cell o = cond (has_cell_in cell) (share_in facts_of m cell o.0 (facts_of o.1)) 0
 
-  -- there are no more objects than root's quota
-  pub room : total_of (λ q x. 1) es ≤ root.facts.quota
-  room =
-      let overdrawn = pointwise (λ q x. cell_at q x + taken_at q x) limit_at within_limit in
-      let cells = plus (λ e. cell_at e.0 e.1) (λ e. taken_at e.0 e.1) es in
-      let swapped = swap_sums taken_by es es in
-      let all = pointwise charge_at (λ q x. sum_by (λ c. taken_by c (q, x)) es) charged in
-      let every = pointwise (λ q x. 1 + limit_at q x) (λ q x. cell_at q x + charge_at q x + root_at q x) each_one in
-      let left = plus (λ e. 1) (λ e. limit_at e.0 e.1) es in
-      let right = plus (λ e. cell_at e.0 e.1 + charge_at e.0 e.1) (λ e. root_at e.0 e.1) es in
-      let right' = plus (λ e. cell_at e.0 e.1) (λ e. charge_at e.0 e.1) es in
-      omega (arith, overdrawn, cells, swapped, all, every, left, right, right', root_total)
+    abbrev cell_at : Path → X → ℕ
+    cell_at q x = cond (has_cell_in q) 1 0
+
+    abbrev limit_at : Path → X → ℕ
+    limit_at q x = cond (has_cell_in q) ((facts_of x).quota) 0
+
+    abbrev taken_at : Path → X → ℕ
+    taken_at q x = sum_by (λ o. taken_by q o) es
+
+    abbrev charge_at : Path → X → ℕ
+    charge_at [] x = 0
+    charge_at (e ∷ p) x = charge_of (facts_of x) (level_in facts_of m p)
+
+    abbrev need_at : Path → X → ℕ
+    need_at q x = need_of q (facts_of x)
+
+    -- 1 and the quota of root, and nothing of any other
+    abbrev one_at : Path → X → ℕ
+    one_at [] x = 1
+    one_at (e ∷ p) x = 0
+
+    abbrev root_at : Path → X → ℕ
+    root_at [] x = (facts_of x).quota
+    root_at (e ∷ p) x = 0
+
+    -- some cell is charged for each object
+    charged : (q : Path) (x : X) → get m q ≡ Some x → charge_at q x ≤ sum_by (λ c. taken_by c.0 (q, x)) es
+    charged [] x h = omega arith
+    charged (e ∷ p) x h =
+        let (d, hd) = parents e p x h in
+        let (c, hc) = governing_there parents p d hd in
+        let value : taken_by (governing_in facts_of m p) (e ∷ p, x) ≡ charge_of (facts_of x) (level_in facts_of m p) =
+        (λ i. cond (governing-has_cell p i) (cond (is_same-itself (governing_in facts_of m p) i) (charge_of (facts_of x) (level_in facts_of m p)) 0) 0) in
+        omega (arith, value, found_le path_cmp path_apart path_total (λ q (y : X). taken_by q (e ∷ p, x)) m (governing_in facts_of m p) c hc)
+
+    -- no cell is overdrawn
+    within_limit : (q : Path) (x : X) → get m q ≡ Some x → cell_at q x + taken_at q x ≤ limit_at q x
+    within_limit q x h = by (has_cell_in q) refl
+      where
+        by : (b : Bool) → has_cell_in q ≡ b → cond b 1 0 + sum_by (λ o. cond b (share_in facts_of m q o.0 (facts_of o.1)) 0) es ≤ cond b ((facts_of x).quota) 0
+        by true is = within q x h is
+        by false is = omega (arith, zeros es)
+
+    upgraded_is : (e : ℕ) (p : Path) (x : X) → get m (e ∷ p) ≡ Some x →
+        is_upgraded_in facts_of m (e ∷ p) ≡ (is_directory ((facts_of x).kind) && passes (λ (a : Facts). not (a.level == (facts_of x).level)) (facts_in facts_of m p))
+    upgraded_is e p x h =
+        ap (λ o. passes (λ (f : Facts). is_directory f.kind && passes (λ (a : Facts). not (a.level == f.level)) (facts_in facts_of m p)) (option_map facts_of o)) h
+
+    each_one : (q : Path) (x : X) → get m q ≡ Some x → one_at q x + need_at q x + limit_at q x ≤ cell_at q x + charge_at q x + root_at q x
+    each_one [] x h = omega arith
+    each_one (e ∷ p) x h = by (is_upgraded_in facts_of m (e ∷ p)) refl
+      where
+        f : Facts
+        f = facts_of x
+
+        by : (b : Bool) → is_upgraded_in facts_of m (e ∷ p) ≡ b →
+            0 + need_by f.kind f.blocks + cond b f.quota 0 ≤ cond b 1 0 + charge_of f (level_in facts_of m p) + 0
+        by true is =
+            let up = sym (upgraded_is e p x h) ∙ is in
+            let charge = upgraded_charge (facts_of x) (facts_in facts_of m p) up in
+            let need = need_directory ((facts_of x).kind) ((facts_of x).blocks) (first_and (is_directory ((facts_of x).kind)) _ up) in
+            omega (arith, charge, need)
+        by false is =
+            let charge = charge_is ((facts_of x).kind) (facts_of x) (level_in facts_of m p) in
+            let some = charges e p x h in
+            let need = need_le ((facts_of x).kind) ((facts_of x).blocks) ((facts_of x).level) ((facts_of x).quota) (level_in facts_of m p) (omega (arith, charge, some)) in
+            omega (arith, charge, need)
+
+    root_total : total_of root_at es ≤ (facts_of root).quota
+    root_total = only_le path_cmp path_apart path_total root_at m [] ((facts_of root).quota) (λ q x h other. alone q other x) (λ x h. same x h)
+      where
+        alone : (q : Path) → eq_by_cmp path_cmp q [] ≡ false → (x : X) → root_at q x ≡ 0
+        alone [] other x = cc
+        alone (e ∷ p) other x = refl
+
+        same : (x : X) → get m [] ≡ Some x → (facts_of x).quota ≤ (facts_of root).quota
+        same x h =
+            let is : (facts_of root).quota ≡ (facts_of x).quota = ap (λ o. unwrap_or (option_map (λ y. (facts_of y).quota) o) 0) (sym top ∙ h) in
+            omega (arith, is)
+
+    -- what all objects need, and 1, is at most root's quota
+    pub needs : 1 + needs_in facts_of m ≤ (facts_of root).quota
+    needs =
+        let overdrawn = pointwise path_cmp path_apart path_total m (λ q x. cell_at q x + taken_at q x) limit_at within_limit in
+        let cells = plus (λ (e : Path × X). cell_at e.0 e.1) (λ e. taken_at e.0 e.1) es in
+        let swapped = swap_sums (λ (c o : Path × X). taken_by c.0 o) es es in
+        let all = pointwise path_cmp path_apart path_total m charge_at (λ q x. sum_by (λ c. taken_by c.0 (q, x)) es) charged in
+        let every = pointwise path_cmp path_apart path_total m (λ q x. one_at q x + need_at q x + limit_at q x) (λ q x. cell_at q x + charge_at q x + root_at q x) each_one in
+        let left = plus (λ (e : Path × X). one_at e.0 e.1 + need_at e.0 e.1) (λ e. limit_at e.0 e.1) es in
+        let left' = plus (λ (e : Path × X). one_at e.0 e.1) (λ e. need_at e.0 e.1) es in
+        let right = plus (λ (e : Path × X). cell_at e.0 e.1 + charge_at e.0 e.1) (λ e. root_at e.0 e.1) es in
+        let right' = plus (λ (e : Path × X). cell_at e.0 e.1) (λ e. charge_at e.0 e.1) es in
+        let one = found_le path_cmp path_apart path_total one_at m [] root top in
+        omega (arith, overdrawn, cells, swapped, all, every, left, left', right, right', one, root_total)
+
+    -- there are no more objects than root's quota
+    pub objects : len m ≤ (facts_of root).quota
+    objects =
+        let each = pointwise path_cmp path_apart path_total m (λ q x. 1) (λ q x. one_at q x + need_at q x) at_least in
+        let split = plus (λ (e : Path × X). one_at e.0 e.1) (λ e. need_at e.0 e.1) es in
+        let one = only_le path_cmp path_apart path_total one_at m [] 1 (λ q x h other. alone q other x) (λ x h. omega arith) in
+        omega (arith, each, split, one, ones es, len-entries m, needs)
+      where
+        alone : (q : Path) → eq_by_cmp path_cmp q [] ≡ false → (x : X) → one_at q x ≡ 0
+        alone [] other x = cc
+        alone (e ∷ p) other x = refl
+
+        at_least : (q : Path) (x : X) → get m q ≡ Some x → 1 ≤ one_at q x + need_at q x
+        at_least [] x h = omega arith
+        at_least (e ∷ p) x h =
+            let charge = charge_is ((facts_of x).kind) (facts_of x) (level_in facts_of m p) in
+            let some = charges e p x h in
+            let need = need_some ((facts_of x).kind) ((facts_of x).blocks) ((facts_of x).level) ((facts_of x).quota) (level_in facts_of m p) (omega (arith, charge, some)) in
+            omega (arith, need)
+
+    -- the blocks of all segments are fewer than root's quota
+    pub blocks : is_directory ((facts_of root).kind) ≡ true → 1 + blocks_in facts_of m ≤ (facts_of root).quota
+    blocks kind =
+        let each = pointwise path_cmp path_apart path_total m (λ q x. blocks_of (facts_of x)) need_at within_need in
+        omega (arith, each, needs)
+      where
+        within_need : (q : Path) (x : X) → get m q ≡ Some x → blocks_of (facts_of x) ≤ need_at q x
+        within_need [] x h =
+            let is : is_directory ((facts_of root).kind) ≡ is_directory ((facts_of x).kind) = ap (λ o. unwrap_or (option_map (λ y. is_directory ((facts_of y).kind)) o) false) (sym top ∙ h) in
+            let none = core_directory ((facts_of x).kind) ((facts_of x).blocks) (sym is ∙ kind) in
+            omega (arith, none)
+        within_need (e ∷ p) x h = core_le ((facts_of x).kind) ((facts_of x).blocks)

@@ -1,4 +1,5 @@
 pub mod Objects
 pub mod Kept
+pub mod Needs
 pub mod Refused
 pub mod Places

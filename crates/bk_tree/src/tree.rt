@@ -1,12 +1,13 @@
 // The tree: the map from paths to objects.
 
-ghost use Rattle.std.specs.Prelude.{◌≡◌, ◌≢◌, ◌<◌, IfErr, ℕ, ◌≤◌, ◌↔◌, [], true, IfOk, IfSome, IsNone, option_map};
+ghost use Rattle.std.specs.Prelude.{◌≡◌, ◌≢◌, ◌<◌, IfErr, ℕ, ◌≤◌, ◌+◌, ◌↔◌, [], true, IfOk, IfSome, IsNone, option_map};
 ghost use Rattle.std.specs.FinMap as map;
 ghost use Rattle.bk_object.specs.declared.Facts.{Facts as FactsValue};
 ghost use Rattle.bk_object.specs.Kinds.{is_directory};
 ghost use Rattle.bk_path.specs.Paths.{Path as PathValue, parent};
 ghost use Rattle.bk_quota.specs.Charges.{governing_in, level_in, quota_in};
 ghost use Rattle.bk_tree.specs.Kept.{cell_in, Fits, HasDirectory, IsFit, IsKept};
+ghost use Rattle.bk_tree.specs.Needs.{blocks_in, needs_in};
 ghost use Rattle.bk_tree.specs.Refused.{Refuses};
 ghost use Rattle.bk_tree.specs.Objects.{facts_of, CanGo, HasNone, HasSlot, IsAt, IsLeafOf, begun, slot_of, without};
 
@@ -151,10 +152,23 @@ impl Tree {
     {
         let _places = self.places.len();
     }
+
     /// Root is a directory at slot 0, parents are there, each object is charged something, and no cell is overdrawn.
     pub fn law_kept(&self)
         ensures root { (facts : FactsValue) × IsAt self.now [] 0 facts × (is_directory facts.kind ≡ true) }
         ensures kept { IsKept self.now }
+    {
+        let _places = self.places.len();
+    }
+
+    /// What the objects need fits root's quota, which is at most 3,904: the blocks of each segment, 2 for a mailbox, 1 for any
+    /// other object but root, and 1 beside. So the blocks of all segments are fewer than that quota, and there are no more
+    /// objects than it.
+    pub fn law_room(&self)
+        ensures needs { 1 + needs_in facts_of self.now ≤ quota_in facts_of self.now [] }
+        ensures blocks { 1 + blocks_in facts_of self.now ≤ quota_in facts_of self.now [] }
+        ensures objects { map.len self.now ≤ quota_in facts_of self.now [] }
+        ensures quota { quota_in facts_of self.now [] ≤ 3904 }
     {
         let _places = self.places.len();
     }

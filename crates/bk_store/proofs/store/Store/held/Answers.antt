@@ -1,13 +1,13 @@
 use Rattle.std.proofs.Common.{◌∙◌, ap}
 use Rattle.bk_store.specs.Stored.{modes_held}
-use Rattle.bk_store.proofs.Changes.{at_slot, none_at, its_slot}
+use Rattle.bk_store.proofs.Entries.{at_slot, none_at, its_slot}
 use Rattle.bk_store.proofs.Looked.{held_there, held_none}
 use Rattle.bk_store.proofs.store.Store.held.Goals as goal
 
 pub modes-requires-clause-slot : goal.modes-requires-clause-slot
 modes-requires-clause-slot c =
     let (facts, at) = at_slot c.self.inside.tree c.args.path c.in-Some.slot c.in-Some.ensures.value in
-    c.self.invariant.within c.args.path c.in-Some.slot.n (its_slot c.self.inside.tree c.args.path c.in-Some.slot.n facts at)
+    c.self.invariant.slots.within c.args.path c.in-Some.slot.n (its_slot c.self.inside.tree c.args.path c.in-Some.slot.n facts at)
 
 pub returns-in-Some : goal.returns-in-Some
 returns-in-Some c =

@@ -1,0 +1,140 @@
+-- A store stands for a state, and each change of the store for that change of the state.
+use Rattle.std.proofs.Common.{◌≡◌, ℕ, Bool, true, false, cond, ◌||◌, List, [], ◌∷◌, Option, Some, None, refl, sym, ap, subst, ◌∙◌}
+use Rattle.std.specs.Prelude.{option_map, if◌then◌else◌}
+use Rattle.std.specs.Ordering.{eq_by_cmp}
+use Rattle.std.specs.FinMap as finite
+use Rattle.std.specs.FinSet as set
+use Rattle.bk_object.specs.declared.modes.Modes.{Modes}
+use Rattle.bk_object.specs.Modes.{Mode, Read, Execute, Write, Append, mode_number}
+use Rattle.bk_object.specs.Rows.{given, rescinded}
+use Rattle.bk_path.specs.Paths.{Path, path_cmp}
+use Rattle.bk_path.specs.Orders.{path_total, path_apart}
+use Rattle.bk_frames.specs.Extents.{Extent}
+use Rattle.bk_state.specs.Maps.{map_values}
+use Rattle.bk_state.specs.Start.{is_line}
+use Rattle.bk_state.specs.State.{State, triple_cmp, Object, Contents, Words, find}
+use Rattle.bk_state.specs.Changes.{changed_at as state_changed_at, changed_by as state_changed_by, with_row as with_state_row, with_triple, without_triples}
+use Rattle.bk_state.proofs.MapsKept.{get-map_values}
+use Rattle.bk_state.proofs.Orders.{triple_total}
+use Rattle.bk_store.specs.Stored.{Entry, Queue, Stored, changed_at, changed_by, contents_in, kept, object_of, objects_of, triples_of, typing, waiting_in, with_given, with_held, with_input, with_queue, with_rescinded, with_row, with_typed, without_held}
+use Rattle.bk_store.specs.Stands.{StandsFor}
+use Rattle.bk_store.proofs.Triples.{triple_apart}
+
+-- an object of the line becomes another in its contents
+abbrev pub taking : ℕ → (Contents → Contents) → Object → Object
+taking line becomes o = record { facts = o.facts; contents = if is_line line o.facts.kind then becomes o.contents else o.contents }
+
+pub get-objects_of : (v : Stored) (words : List ℕ) (p : Path) → finite.get (objects_of v words) p ≡ option_map (object_of words) (finite.get v.objects p)
+get-objects_of v words p = get-map_values path_cmp (object_of words) v.objects p
+
+-- one object more, or another one in its place
+pub objects_of-insert : (words : List ℕ) (m : finite.FinMap path_cmp Entry) (path : Path) (e : Entry) → map_values (object_of words) (finite.insert m path e) ≡ finite.insert (map_values (object_of words) m) path (object_of words e)
+objects_of-insert words m path e = finite.same_map path_total path_apart _ _ (λ q.
+    get-map_values path_cmp (object_of words) (finite.insert m path e) q ∙ ap (option_map (object_of words)) (finite.get-insert path_total m path e q)
+    ∙ by (eq_by_cmp path_cmp q path) (finite.get m q)
+    ∙ sym (finite.get-insert path_total (map_values (object_of words) m) path (object_of words e) q ∙ ap (cond (eq_by_cmp path_cmp q path) (Some (object_of words e))) (get-map_values path_cmp (object_of words) m q)))
+  where
+    by : (b : Bool) (o : Option Entry) → option_map (object_of words) (cond b (Some e) o) ≡ cond b (Some (object_of words e)) (option_map (object_of words) o)
+    by true o = refl
+    by false o = refl
+
+module _ (v : Stored) (words : List ℕ) (s : State) (stands : StandsFor v words s) where
+  -- the object that is found is the state's
+  pub found : (path : Path) → option_map (object_of words) (finite.get v.objects path) ≡ find s path
+  found path = sym (get-objects_of v words path) ∙ ap (λ m. finite.get m path) stands.objects
+
+  -- one object becomes another
+  pub stands-changed : (path : Path) (change : Entry → Entry) (becomes : Object → Object) → ((e : Entry) → object_of words (change e) ≡ becomes (object_of words e)) →
+      StandsFor (changed_at path change v) words (state_changed_at s path becomes)
+  stands-changed path change becomes agree = subst (λ o. StandsFor (changed_at path change v) words (state_changed_by s path becomes o)) (found path) (by (finite.get v.objects path))
+    where
+      by : (o : Option Entry) → StandsFor (changed_by v path change o) words (state_changed_by s path becomes (option_map (object_of words) o))
+      by None = stands
+      by (Some e) = record {
+        levels = stands.levels;
+        lines = stands.lines;
+        objects = objects_of-insert words v.objects path (change e) ∙ (λ i. finite.insert (stands.objects i) path (agree e i));
+        access = stands.access;
+      }
+
+  -- the row grants more
+  pub stands-given : (subject : ℕ) (path : Path) (modes : Modes) → StandsFor (with_given subject path modes v) words (state_changed_at s path (with_state_row (given subject modes)))
+  stands-given subject path modes = stands-changed path (with_row (given subject modes)) (with_state_row (given subject modes)) (λ e. refl)
+
+  -- the subject no longer holds the object by these modes
+  pub stands-released : (subject : ℕ) (path : Path) (modes : Modes) → StandsFor (without_held subject path modes v) words (without_triples s subject path modes)
+  stands-released subject path modes = record {
+    levels = stands.levels;
+    lines = stands.lines;
+    objects = stands.objects;
+    access = λ i. (without_triples (record s { access = stands.access i }) subject path modes).access;
+  }
+
+  -- the subject holds the object by one mode more
+  pub stands-held : (subject : ℕ) (path : Path) (mode : Mode) → StandsFor (with_held subject path (record { 0 = mode_number mode }) v) words (with_triple s subject path mode)
+  stands-held subject path mode = record {
+    levels = stands.levels;
+    lines = stands.lines;
+    objects = stands.objects;
+    access = ap (λ ts. set.union v.access (set.from_list ts)) (one mode) ∙ added v.access ∙ ap (λ a. set.insert a (subject, path, mode)) stands.access;
+  }
+    where
+      one : (x : Mode) → triples_of subject path (record { 0 = mode_number x }) ≡ (subject, path, x) ∷ []
+      one Read = refl
+      one Execute = refl
+      one Write = refl
+      one Append = refl
+
+      added : (access : set.FinSet triple_cmp) → set.union access (set.from_list ((subject, path, mode) ∷ [])) ≡ set.insert access (subject, path, mode)
+      added access = set.same_set triple_total triple_apart _ _ (λ t.
+          set.contains-union triple_total access (set.from_list ((subject, path, mode) ∷ [])) t
+          ∙ ap (λ b. set.contains access t || b) (set.contains-from_list triple_total ((subject, path, mode) ∷ []) t)
+          ∙ either (set.contains access t) (eq_by_cmp triple_cmp t (subject, path, mode))
+          ∙ sym (set.contains-insert triple_total access (subject, path, mode) t))
+        where
+          either : (a b : Bool) → (a || (b || false)) ≡ (b || a)
+          either true true = refl
+          either true false = refl
+          either false true = refl
+          either false false = refl
+
+  -- what waits in one object changes
+  pub stands-queue : (path : Path) (change : Queue → Queue) (becomes : Contents → Contents) → ((q : Queue) → waiting_in (change q) ≡ becomes (waiting_in q)) → ((ws : List ℕ) → Words ws ≡ becomes (Words ws)) →
+      StandsFor (changed_at path (with_queue change) v) words (state_changed_at s path (λ o. record { facts = o.facts; contents = becomes o.contents }))
+  stands-queue path change becomes agree kept_words = stands-changed path (with_queue change) (λ o. record { facts = o.facts; contents = becomes o.contents }) (λ e. (λ i. record { facts = e.facts; contents = by e.queue e.extent i }))
+    where
+      by : (q : Queue) (x : Option Extent) → contents_in words (change q) x ≡ becomes (contents_in words q x)
+      by q None = agree q
+      by q (Some x) = kept_words _
+
+  -- a byte is typed on a line
+  pub stands-typed : (line byte : ℕ) (becomes : Contents → Contents) → ((q : Queue) → waiting_in (with_input (λ bytes. kept bytes byte) q) ≡ becomes (waiting_in q)) → ((ws : List ℕ) → Words ws ≡ becomes (Words ws)) →
+      StandsFor (with_typed line byte v) words (record s { objects = map_values (taking line becomes) s.objects })
+  stands-typed line byte becomes agree kept_words = record {
+    levels = stands.levels;
+    lines = stands.lines;
+    objects = each ∙ ap (λ (m : finite.FinMap path_cmp Object). map_values (taking line becomes) m) stands.objects;
+    access = stands.access;
+  }
+    where
+      contents : (q : Queue) (x : Option Extent) (b : Bool) → contents_in words (if b then with_input (λ bytes. kept bytes byte) q else q) x ≡ (if b then becomes (contents_in words q x) else contents_in words q x)
+      contents q x false = refl
+      contents q None true = agree q
+      contents q (Some x) true = kept_words _
+
+      by : (o : Option Entry) → option_map (object_of words) (option_map (typing line byte) o) ≡ option_map (taking line becomes) (option_map (object_of words) o)
+      by None = refl
+      by (Some e) = λ i. Some (record { facts = e.facts; contents = contents e.queue e.extent (is_line line e.facts.kind) i })
+
+      each : objects_of (with_typed line byte v) words ≡ map_values (taking line becomes) (objects_of v words)
+      each = finite.same_map path_total path_apart _ _ (λ q.
+          get-map_values path_cmp (object_of words) (map_values (typing line byte) v.objects) q
+          ∙ ap (option_map (object_of words)) (get-map_values path_cmp (typing line byte) v.objects q)
+          ∙ by (finite.get v.objects q)
+          ∙ sym (get-map_values path_cmp (taking line becomes) (objects_of v words) q ∙ ap (option_map (taking line becomes)) (get-objects_of v words q)))
+
+-- the row grants less, and what was held by it goes
+pub stands-rescinded : (v : Stored) (words : List ℕ) (s : State) → StandsFor v words s → (subject : ℕ) (path : Path) (modes : Modes) →
+    StandsFor (with_rescinded subject path modes v) words (state_changed_at (without_triples s subject path modes) path (with_state_row (rescinded subject modes)))
+stands-rescinded v words s stands subject path modes =
+    stands-changed (without_held subject path modes v) words (without_triples s subject path modes) (stands-released v words s stands subject path modes) path (with_row (rescinded subject modes)) (with_state_row (rescinded subject modes)) (λ e. refl)
