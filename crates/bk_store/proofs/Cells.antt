@@ -1,19 +1,23 @@
 -- Cells are counted by the facts alone.
-use Rattle.std.proofs.Common.{◌≡◌, ◌+◌, ◌&&◌, not, ◌==◌, List, [], ◌∷◌, map, Option, Some, None, refl, sym, ap, ◌∙◌, arith, T, is_lt, subst}
+use Rattle.std.proofs.Common.{◌≡◌, ◌+◌, ◌≤◌, ℕ, true, ◌&&◌, not, ◌==◌, List, [], ◌∷◌, map, Option, Some, None, refl, sym, ap, ◌∙◌, arith, T, is_lt, subst}
 use Rattle.std.specs.Prelude.{option_map, unwrap_or, if◌then◌else◌, sum_by}
 use Rattle.std.specs.FinMap as finite
 use Rattle.std.specs.FinMap.Entries.{below_all}
 use Rattle.std.proofs.lemmas.List.Sums.{sum_by-cons}
 use Rattle.bk_object.specs.declared.Facts.{Facts}
 use Rattle.bk_object.specs.Kinds.{is_directory}
-use Rattle.bk_path.specs.Paths.{Path, path_cmp, is_same}
-use Rattle.bk_quota.specs.Charges.{passes, charge_of, facts_in, is_upgraded_in, governing_in, quota_in, share_in, used_in}
+use Rattle.bk_path.specs.Paths.{Path, parent, path_cmp, is_same}
+use Rattle.bk_quota.specs.Charges.{passes, charge_of, level_in, facts_in, is_upgraded_in, governing_in, quota_in, share_in, used_in}
 use Rattle.bk_tree.specs.declared.place.Placed.{Placed}
 use Rattle.bk_tree.specs.Objects.{Objects, facts_of}
-use Rattle.bk_tree.specs.Kept.{cell_in}
-use Rattle.bk_store.specs.Stored.{Stored, cell_of}
+use Rattle.bk_tree.specs.Kept.{cell_in, HasDirectory, Fits as FitsTree}
+use Rattle.bk_tree.specs.Needs.{blocks_of, core_by}
+use Rattle.bk_tree.proofs.Totals.{total_of}
+use Rattle.bk_object.specs.declared.kind.Kind.{Kind}
+use Rattle.bk_object.specs.declared.kind.Kind.TheVariants.{Directory, Segment, Mailbox, Line}
+use Rattle.bk_store.specs.Stored.{Stored, Fits, cell_of, level_number}
 use Rattle.bk_store.specs.Stored.{Entry}
-use Rattle.bk_store.specs.Joined.{Tables, entry_of, entries_of}
+use Rattle.bk_store.specs.Joined.{Tables, entry_of, entries_of, or_zero, size_of, blocks_of as blocks_of_kind}
 use Rattle.bk_store.proofs.Entries.{get-entry}
 
 abbrev each : Tables → List (Path × Placed) → List (Path × Entry)
@@ -74,3 +78,39 @@ module _ (tree : Objects) (tables : Tables) where
     limit = (ap (quota_in (λ (e : Entry). e.facts) objects) (governing-same path) ∙ ap (λ o. unwrap_or (option_map (λ (f : Facts). f.quota) o) 0) (facts-same (governing_in facts_of tree path))) i;
     used = (ap (used_in (λ (e : Entry). e.facts) objects) (governing-same path) ∙ used-same (governing_in facts_of tree path)) i;
   }))
+
+  level-same : (p : Path) → level_in (λ (e : Entry). e.facts) objects p ≡ level_in facts_of tree p
+  level-same p = λ i. unwrap_or (option_map (λ (f : Facts). f.level) (facts-same p i)) 0
+
+  -- the level of a parent
+  pub number-same : (v : Stored) → v.objects ≡ objects → (p : Path) → level_number v p ≡ level_in facts_of tree p
+  number-same v is p = ap (λ m. level_in (λ (e : Entry). e.facts) m p) is ∙ level-same p
+
+  -- what fits in the tree fits in the store
+  pub fits-same : (v : Stored) → v.objects ≡ objects → (path : Path) (facts : Facts) → FitsTree tree path facts ≡ Fits v path facts
+  fits-same v is path facts = λ i. (cell-same v is (parent path) i).used + charge_of facts (sym (number-same v is (parent path)) i) ≤ (cell-same v is (parent path) i).limit
+
+-- a directory is in the tree
+pub directory_in_tree : (tree : Objects) (tables : Tables) (p : Path) → passes (λ (e : Entry). is_directory e.facts.kind) (finite.get (entries_of tree tables) p) ≡ true → HasDirectory tree p
+directory_in_tree tree tables p h = by (finite.get tree p) refl (sym (ap (passes (λ (e : Entry). is_directory e.facts.kind)) (get-entry tree tables p)) ∙ h)
+  where
+    by : (o : Option Placed) → finite.get tree p ≡ o → passes (λ (e : Entry). is_directory e.facts.kind) (option_map (entry_of tables) o) ≡ true → HasDirectory tree p
+    by None is k = cc
+    by (Some a) is k = (a, is, k)
+
+-- the blocks of all segments, counted in two words
+pub blocks-same : (es : List (Path × Placed)) → sum_by (λ o. blocks_of (facts_of o.1)) es ≡ total_of (λ p (a : Placed). size_of a.facts) es
+blocks-same [] = refl
+blocks-same (e ∷ es) = omega (
+  arith,
+  blocks-same es,
+  by e.1.facts.kind e.1.facts.blocks,
+  sum_by-cons (λ (o : Path × Placed). blocks_of (facts_of o.1)) e es,
+  sum_by-cons (λ (o : Path × Placed). size_of o.1.facts) e es,
+)
+  where
+    by : (kind : Kind) (blocks : ℕ) → core_by kind blocks ≡ or_zero (blocks_of_kind kind blocks)
+    by Directory blocks = refl
+    by Segment blocks = refl
+    by Mailbox blocks = refl
+    by (Line n) blocks = refl
