@@ -1,5 +1,6 @@
 pub mod Texts
 pub mod Parts
+pub mod Views
 pub mod Numbers
 pub mod Header
 pub mod Subjects

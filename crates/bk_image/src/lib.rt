@@ -9,6 +9,9 @@
 #![tactic(auto)]
 
 mod fault;
+mod header;
+mod part;
+mod rest;
 
 pub use bk_state::{
     Hold, Holds, Image, ObjectRec, Objects, SubjectRec, Subjects, WindowRec, Windows,
