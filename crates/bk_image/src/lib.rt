@@ -10,8 +10,12 @@
 
 mod fault;
 mod header;
+mod level;
 mod part;
 mod rest;
+mod schedule;
+mod subject;
+mod window;
 
 pub use bk_state::{
     Hold, Holds, Image, ObjectRec, Objects, SubjectRec, Subjects, WindowRec, Windows,

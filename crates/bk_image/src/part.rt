@@ -20,12 +20,12 @@ pub(crate) fn bad(at: u32, field: ImageField) -> ImageStop
     ImageStop::Bad(ImageFault { at, field })
 }
 
-/// The next n bytes.
+/// The next n bytes, which are then taken.
 #[tactic(auto, unfolding(crate::specs::Parts::part))]
-pub(crate) fn part<'a>(rest: Rest<'a>, n: u32) -> Result<(&'a [u8], Rest<'a>), ImageStop>
-    ensures exact { Gives (λ x. (x.0.now, rest_of x.1)) result (part n (rest_of rest.entry)) }
-    ensures whole { IfOk result (λ x. length x.0.now ≡ n) }
-    ensures place { IfOk result (λ x. x.1.at ≡ rest.entry.at + n) }
+pub(crate) fn part<'a>(rest: &mut Rest<'a>, n: u32) -> Result<&'a [u8], ImageStop>
+    ensures exact { Gives (λ b. (b.now, rest_of rest.new)) result (part n (rest_of rest.old)) }
+    ensures whole { IfOk result (λ b. length b.now ≡ n) }
+    ensures place { IfOk result (λ b. rest.new.at ≡ rest.old.at + n) }
 {
     if n > LIMIT || rest.at > LIMIT - n {
         return Err(bad(rest.at, ImageField::Long));
@@ -34,13 +34,11 @@ pub(crate) fn part<'a>(rest: Rest<'a>, n: u32) -> Result<(&'a [u8], Rest<'a>), I
         return Err(bad(rest.at + rest.bytes.len() as u32, ImageField::End));
     }
     let (front, after) = rest.bytes.split_at(n as usize);
-    Ok((
-        front,
-        Rest {
-            at: rest.at + n,
-            bytes: after,
-        },
-    ))
+    *rest = Rest {
+        at: rest.at + n,
+        bytes: after,
+    };
+    Ok(front)
 }
 
 /// The number of two bytes, the low one first.
