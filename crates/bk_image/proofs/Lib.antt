@@ -1,2 +1,4 @@
 pub mod Loops
 pub mod Words
+pub mod Ordered
+pub mod Pairs

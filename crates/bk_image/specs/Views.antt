@@ -1,5 +1,10 @@
 -- What the code keeps while it reads, as the definitions see it.
-use Rattle.std.specs.Prelude.{ℕ}
+use Rattle.std.specs.Prelude.{◌≡◌, ℕ, ◌<◌, List, length, map, slice_index_or, if◌then◌else◌}
+use Rattle.std.specs.declared.cmp.Ordering.TheVariants.{Less}
+use Rattle.bk_path.specs.Paths.{Path, path_cmp}
+use Rattle.bk_state.specs.State.{Object}
+use Rattle.bk_state.specs.Start.{object_from}
+use Rattle.bk_state.specs.declared.image.ObjectRec.{ObjectRec}
 use Rattle.bk_image.specs.declared.rest.Rest as rest_code
 use Rattle.bk_image.specs.declared.header.Header as header_code
 use Rattle.bk_image.specs.Parts.{Rest}
@@ -18,3 +23,7 @@ header_in header = record {
   objects = header.objects;
   holds = header.holds;
 }
+
+-- each path stands above those before it
+abbrev pub IsAscending : List ObjectRec → Type 0
+IsAscending objects = (i j : ℕ) (d : ObjectRec) → i < j → j < length objects → path_cmp (slice_index_or objects i d).path (slice_index_or objects j d).path ≡ Less

@@ -11,8 +11,11 @@
 mod fault;
 mod header;
 mod level;
+mod lookup;
+mod object;
 mod part;
 mod rest;
+mod row;
 mod schedule;
 mod subject;
 mod window;
