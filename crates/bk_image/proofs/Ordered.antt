@@ -1,6 +1,9 @@
 -- Objects in the order of their paths: what is found at a place, what is not found, and one more at the end.
-use Rattle.std.proofs.Common.{◌≡◌, ℕ, zero, suc, ◌+◌, ◌-◌, ◌<◌, ◌≤◌, Bool, true, false, cond, T, ◌&&◌, List, [], ◌∷◌, ◌++◌, length, map, get_or, Option, Some, None, Result, Ok, Err, Ordering, Less, Equal, Greater, is_eq, is_lt, refl, sym, ap, subst, ◌∙◌, arith, inl, inr, ◌⊎◌}
+use Rattle.std.proofs.Common.{◌≡◌, ℕ, zero, suc, ◌+◌, ◌-◌, ◌<◌, ◌≤◌, Bool, true, false, cond, T, ◌&&◌, List, [], ◌∷◌, ◌++◌, length, map, get_or, Option, Some, None, Result, Ok, Err, Ordering, Less, Equal, Greater, is_eq, is_lt, refl, sym, ap, subst, ◌∙◌, arith, inl, inr, ◌⊎◌, length-append}
 use Rattle.std.proofs.lemmas.Bool.{cases_lt}
+use Rattle.std.proofs.lemmas.Option.{slice_get-get_or}
+use Rattle.std.proofs.lemmas.List.{get_or_append_left}
+use Rattle.std.proofs.Math.Seq.{get_or-append_seam}
 use Rattle.std.specs.Prelude.{slice_get, option_map}
 use Rattle.std.specs.Ordering.{eq_by_cmp, ordering_index, ordering_reverse}
 use Rattle.std.specs.Cmp.{tied_itself}
@@ -85,3 +88,43 @@ module _ (path : Path) where
           by : (k < place) ⊎ (place ≤ k) → is_eq (path_cmp (get_or objects k d).path path) ≡ false
           by (inl below) = ap is_eq ((parted (rising objects up)).0 k d (omega arith) below)
           by (inr from) = ap is_eq ((parted (rising objects up)).1 k d from lt)
+
+-- ---- one more object
+
+last_is : (objects : List ObjectRec) (d : ObjectRec) → 0 < length objects → last objects ≡ Some (get_or objects (length objects - 1) d)
+last_is objects d some = slice_get-get_or objects (length objects - 1) d (omega (arith, some))
+
+-- the last object stands below a path that follows
+below_next : (objects : List ObjectRec) (path : Path) (d : ObjectRec) → 0 < length objects → path_follows (last objects) path ≡ true → path_cmp (get_or objects (length objects - 1) d).path path ≡ Less
+below_next objects path d some follows = less _ (ap (λ o. path_follows o path) (sym (last_is objects d some)) ∙ follows)
+
+pub ascending_push : (objects : List ObjectRec) (o : ObjectRec) → IsAscending objects → path_follows (last objects) o.path ≡ true → IsAscending (objects ++ o ∷ [])
+ascending_push objects o up follows i j d lt in_range = by (cases_lt j (length objects))
+  where
+    many : length (objects ++ o ∷ []) ≡ length objects + 1
+    many = length-append objects (o ∷ [])
+
+    old : (k : ℕ) → k < length objects → get_or (objects ++ o ∷ []) k d ≡ get_or objects k d
+    old k below = get_or_append_left objects (o ∷ []) d k below
+
+    new : get_or (objects ++ o ∷ []) (length objects) d ≡ o
+    new = get_or-append_seam objects o [] d
+
+    under : (k : ℕ) → k < length objects → path_cmp (get_or objects k d).path o.path ≡ Less
+    under k below = near (cases_lt k (length objects - 1))
+      where
+        top : path_cmp (get_or objects (length objects - 1) d).path o.path ≡ Less
+        top = below_next objects o.path d (omega (arith, below)) follows
+
+        near : (k < length objects - 1) ⊎ (length objects - 1 ≤ k) → path_cmp (get_or objects k d).path o.path ≡ Less
+        near (inl lower) = path_total.trans (get_or objects k d).path (get_or objects (length objects - 1) d).path o.path (up k (length objects - 1) d lower (omega (arith, below))) top
+        near (inr here) = let is : length objects - 1 ≡ k = omega (arith, here, below) in ap (λ n. path_cmp (get_or objects n d).path o.path) (sym is) ∙ top
+
+    by : (j < length objects) ⊎ (length objects ≤ j) → path_cmp (get_or (objects ++ o ∷ []) i d).path (get_or (objects ++ o ∷ []) j d).path ≡ Less
+    by (inl below) = (λ n. path_cmp (old i (omega (arith, lt, below)) n).path (old j below n).path) ∙ up i j d lt below
+    by (inr from) =
+        let is : j ≡ length objects = omega (arith, from, in_range, many) in
+        let low : i < length objects = omega (arith, lt, is) in
+        ap (λ n. path_cmp (get_or (objects ++ o ∷ []) i d).path (get_or (objects ++ o ∷ []) n d).path) is
+        ∙ (λ n. path_cmp (old i low n).path (new n).path)
+        ∙ under i low
