@@ -2,3 +2,4 @@ pub mod Loops
 pub mod Words
 pub mod Ordered
 pub mod Pairs
+pub mod Shares

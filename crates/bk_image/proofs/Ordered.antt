@@ -1,16 +1,15 @@
 -- Objects in the order of their paths: what is found at a place, what is not found, and one more at the end.
-use Rattle.std.proofs.Common.{◌≡◌, ℕ, zero, suc, ◌+◌, ◌-◌, ◌<◌, ◌≤◌, Bool, true, false, cond, T, ◌&&◌, List, [], ◌∷◌, ◌++◌, length, map, get_or, Option, Some, None, Result, Ok, Err, Ordering, Less, Equal, Greater, is_eq, is_lt, refl, sym, ap, subst, ◌∙◌, arith, inl, inr, ◌⊎◌, length-append}
+use Rattle.std.proofs.Common.{◌≡◌, ℕ, zero, suc, ◌+◌, ◌-◌, ◌<◌, ◌≤◌, true, false, cond, List, [], ◌∷◌, ◌++◌, length, map, get_or, Some, None, Err, Ordering, Less, Equal, Greater, is_eq, is_lt, refl, sym, ap, subst, ◌∙◌, arith, inl, inr, ◌⊎◌, length-append}
 use Rattle.std.proofs.lemmas.Bool.{cases_lt}
 use Rattle.std.proofs.lemmas.Option.{slice_get-get_or}
 use Rattle.std.proofs.lemmas.List.{get_or_append_left}
 use Rattle.std.proofs.Math.Seq.{get_or-append_seam}
-use Rattle.std.specs.Prelude.{slice_get, option_map}
+use Rattle.std.specs.Prelude.{option_map}
 use Rattle.std.specs.Ordering.{eq_by_cmp, ordering_index, ordering_reverse}
 use Rattle.std.specs.Cmp.{tied_itself}
-use Rattle.std.specs.List.Sorted.{IsNonDecreasingBy, IsSortedBy, IsBinarySearchResult, IsSearchInRange}
+use Rattle.std.specs.List.Sorted.{IsNonDecreasingBy, IsBinarySearchResult}
 use Rattle.std.specs.FinMap as finmap
 use Rattle.std.proofs.lemmas.List.Sorted.{searchable_from_sorted}
-use Rattle.bk_object.specs.declared.facts.Facts.{Facts}
 use Rattle.bk_path.specs.Paths.{Path, path_cmp}
 use Rattle.bk_path.specs.Orders.{path_total, path_apart}
 use Rattle.bk_state.specs.State.{Object}
@@ -20,7 +19,7 @@ use Rattle.bk_image.specs.Parts.{last}
 use Rattle.bk_image.specs.Objects.{objects_in, facts_at, path_follows}
 use Rattle.bk_image.specs.Views.{IsAscending}
 
-abbrev entries_of : List ObjectRec → List (Path × Object)
+abbrev pub entries_of : List ObjectRec → List (Path × Object)
 entries_of objects = map (λ o. (o.path, object_from o)) objects
 
 get_entries : (objects : List ObjectRec) (path : Path) → finmap.get (objects_in objects) path ≡ finmap.find path_cmp path (entries_of objects)
@@ -39,7 +38,7 @@ below_back p q h = path_total.antisymm q p ∙ ap ordering_reverse h
 not_tied : (p q : Path) → path_cmp p q ≡ Less → eq_by_cmp path_cmp q p ≡ false
 not_tied p q h = ap is_eq (below_back p q h)
 
-ascending_tail : (o : ObjectRec) (objects : List ObjectRec) → IsAscending (o ∷ objects) → IsAscending objects
+pub ascending_tail : (o : ObjectRec) (objects : List ObjectRec) → IsAscending (o ∷ objects) → IsAscending objects
 ascending_tail o objects up = λ i j d lt in_range. up (suc i) (suc j) d (omega (arith, lt)) (omega (arith, in_range))
 
 -- ---- the searched place

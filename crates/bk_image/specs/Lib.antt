@@ -1,10 +1,10 @@
 pub mod Texts
 pub mod Parts
-pub mod Views
 pub mod Numbers
 pub mod Header
 pub mod Subjects
 pub mod Objects
+pub mod Views
 pub mod Holds
 pub mod Image
 pub mod Spelling

@@ -1,5 +1,6 @@
 // The header: each of its fields is a part.
 
+ghost use Rattle.std.specs.Prelude.{◌≤◌, IfOk};
 ghost use Rattle.bk_image.specs.Header.{byte_at, word_at, magic_at, header_at};
 ghost use Rattle.bk_image.specs.Parts.{Gives};
 ghost use Rattle.bk_image.specs.Views.{rest_of, header_in};
@@ -23,7 +24,8 @@ pub(crate) struct Header {
 // A number of one byte, from low to high.
 #[tactic(auto, unfolding(crate::specs::Header::byte_at))]
 fn byte_of(rest: &mut Rest, field: ImageField, low: u8, high: u8) -> Result<u8, ImageStop>
-    ensures { Gives (λ x. (x, rest_of rest.new)) result (byte_at field low high (rest_of rest.old)) }
+    ensures within { IfOk result (λ x. x ≤ high) }
+    ensures exact { Gives (λ x. (x, rest_of rest.new)) result (byte_at field low high (rest_of rest.old)) }
 {
     let at = rest.at;
     let bytes = part(rest, 1)?;
@@ -64,7 +66,9 @@ fn magic(rest: &mut Rest) -> Result<(), ImageStop>
 /// The 16 bytes of the header.
 #[tactic(auto, unfolding(crate::specs::Header::header_at))]
 pub(crate) fn read_header(rest: &mut Rest) -> Result<Header, ImageStop>
-    ensures { Gives (λ x. (header_in x, rest_of rest.new)) result (header_at (rest_of rest.old)) }
+    ensures levels { IfOk result (λ header. header.levels ≤ 64) }
+    ensures subjects { IfOk result (λ header. header.subjects ≤ 32) }
+    ensures exact { Gives (λ header. (header_in header, rest_of rest.new)) result (header_at (rest_of rest.old)) }
 {
     magic(rest)?;
     word_of(rest, ImageField::Version, 1, 1)?;

@@ -19,7 +19,7 @@ use crate::rest::Rest;
 use crate::row::{fits_modes, fits_subjects, row_of};
 use crate::subject::dominates_at;
 use bk_base::Words;
-use bk_level::Level;
+use bk_level::LevelTable;
 use bk_object::{Facts, Kind};
 use bk_path::Path;
 use bk_state::ObjectRec;
@@ -138,7 +138,7 @@ fn fits_kind(lines: u8, before: &[ObjectRec], kind: Kind, blocks: u8) -> bool
 }
 
 // Whether the level dominates that of the object at the parent.
-fn dominates_above(levels: &[Level], objects: &[ObjectRec], path: Path, level: u8) -> bool
+fn dominates_above(levels: &LevelTable, objects: &[ObjectRec], path: Path, level: u8) -> bool
     requires { IsAscending objects.now }
     ensures { result ≡ model.dominates_above levels.now (model.objects_in objects.now) path level }
 {
@@ -212,7 +212,7 @@ fn ends_in_zero(words: &[u16]) -> bool
 // The checks of an object's 28 bytes, in their order; then its path.
 fn check(
     at: u32,
-    levels: &[Level],
+    levels: &LevelTable,
     subjects: u8,
     lines: u8,
     before: &[ObjectRec],
@@ -237,7 +237,7 @@ fn check(
 // Those after the first, where the words are this path.
 fn check_at(
     at: u32,
-    levels: &[Level],
+    levels: &LevelTable,
     subjects: u8,
     lines: u8,
     before: &[ObjectRec],
@@ -264,7 +264,7 @@ fn check_at(
     if !fits_kind(lines, before, facts.kind, facts.blocks) {
         return Err(bad(at, ImageField::Blocks));
     }
-    if facts.level as usize >= levels.len() {
+    if facts.level >= levels.len() {
         return Err(bad(at, ImageField::Level));
     }
     if !is_root(path) && !dominates_above(levels, before, path, facts.level) {
@@ -289,7 +289,7 @@ fn check_at(
 #[tactic(auto, unfolding(crate::specs::Objects::object_at))]
 fn next(
     alloc: Global,
-    levels: &[Level],
+    levels: &LevelTable,
     subjects: u8,
     lines: u8,
     before: &[ObjectRec],
@@ -329,7 +329,7 @@ fn object_of(path: Path, bytes: &[u8], words: Vec<u16>) -> ObjectRec
 /// So many objects.
 pub(crate) fn read_objects(
     alloc: Global,
-    levels: &[Level],
+    levels: &LevelTable,
     subjects: u8,
     lines: u8,
     count: u16,

@@ -1,6 +1,6 @@
 // Subjects: the numbers of their levels, their processes at the start, and their windows.
 
-ghost use Rattle.std.specs.Prelude.{◌≡◌, ◌≤◌, ◌+◌, ◌%◌, ◌==◌, [], length, take, drop};
+ghost use Rattle.std.specs.Prelude.{◌≡◌, ◌≤◌, ◌+◌, ◌%◌, ◌==◌, [], length, take, drop, IfOk};
 ghost use Rattle.std.specs.List.{list_all};
 ghost use Rattle.bk_level.specs.Levels as levels_model;
 ghost use Rattle.bk_image.specs.Numbers.{words_of};
@@ -9,30 +9,20 @@ ghost use Rattle.bk_image.specs.Subjects.{is_mode, mode_of, subject_at, subject_
 ghost use Rattle.bk_image.specs.Views.{rest_of};
 
 use crate::fault::{ImageField, ImageStop};
+use crate::level::level_at;
 use crate::part::{bad, part, word};
 use crate::rest::Rest;
 use crate::window::read_windows;
-use bk_level::Level;
+use bk_level::LevelTable;
 use bk_space::Mode;
 use bk_state::{SubjectRec, WindowRec, Windows};
 use std::alloc::Global;
 
 /// Whether the level with the first number dominates that with the second; a number past the end is that of the lowest level.
-pub(crate) fn dominates_at(levels: &[Level], above: u8, below: u8) -> bool
+pub(crate) fn dominates_at(levels: &LevelTable, above: u8, below: u8) -> bool
     ensures { result ≡ levels_model.dominates (levels_model.level_at levels.now above) (levels_model.level_at levels.now below) }
 {
     level_at(levels, above).dominates(level_at(levels, below))
-}
-
-/// The level with the number; past the end the lowest level.
-#[tactic(auto, unfolding(bk_level::specs::Masks::categories_of))]
-pub(crate) fn level_at(levels: &[Level], n: u8) -> Level
-    ensures { result ≡ levels_model.level_at levels.now n }
-{
-    match levels.get(n as usize) {
-        Some(level) => *level,
-        None => Level { class: 0, cats: 0 },
-    }
 }
 
 fn is_mode(number: u8) -> bool
@@ -90,11 +80,11 @@ fn are_even(entries: &[u16]) -> bool
 }
 
 // The checks of a subject's 39 bytes, in their order.
-fn check(at: u32, levels: &[Level], bytes: &[u8]) -> Result<(), ImageStop>
+fn check(at: u32, levels: &LevelTable, bytes: &[u8]) -> Result<(), ImageStop>
     requires { length bytes.now ≡ 39 }
     ensures { Gives (λ x. tt) result (first_failing at (subject_fails levels.now bytes.now)) }
 {
-    if bytes[0] as usize >= levels.len() || bytes[1] as usize >= levels.len() {
+    if bytes[0] >= levels.len() || bytes[1] >= levels.len() {
         return Err(bad(at, ImageField::Level));
     }
     if !dominates_at(levels, bytes[0], bytes[1]) {
@@ -134,7 +124,7 @@ fn subject_of(bytes: &[u8], windows: Vec<WindowRec>) -> SubjectRec
 #[tactic(auto, unfolding(crate::specs::Subjects::subject_at))]
 fn next(
     alloc: Global,
-    levels: &[Level],
+    levels: &LevelTable,
     before: &[SubjectRec],
     rest: &mut Rest,
 ) -> Result<SubjectRec, ImageStop>
@@ -150,11 +140,12 @@ fn next(
 /// So many subjects.
 pub(crate) fn read_subjects(
     alloc: Global,
-    levels: &[Level],
+    levels: &LevelTable,
     count: u8,
     rest: &mut Rest,
 ) -> Result<Vec<SubjectRec>, ImageStop>
-    ensures { Gives (λ x. (x.items, rest_of rest.new)) result (each_of (subject_at levels.now) count [] (rest_of rest.old)) }
+    ensures few { IfOk result (λ v. length v.items ≡ count) }
+    ensures exact { Gives (λ v. (v.items, rest_of rest.new)) result (each_of (subject_at levels.now) count [] (rest_of rest.old)) }
 {
     let mut subjects = Vec::new(alloc);
     for _ in 0..count {

@@ -1,4 +1,4 @@
-use Rattle.std.proofs.Common.{◌≡◌, ◌+◌, drop, length, [], ap, sym, ◌∙◌, arith}
+use Rattle.std.proofs.Common.{◌≡◌, ◌+◌, drop, [], ap, sym, ◌∙◌, arith}
 use Rattle.bk_object.specs.Pairs.{split_pairs}
 use Rattle.bk_image.specs.Objects.{fits_modes}
 use Rattle.bk_image.proofs.Pairs.{length-split_pairs, drop_all}

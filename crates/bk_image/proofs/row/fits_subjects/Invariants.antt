@@ -1,4 +1,4 @@
-use Rattle.std.proofs.Common.{◌≡◌, drop}
+use Rattle.std.proofs.Common.{◌≡◌}
 use Rattle.bk_object.specs.Pairs.{split_pairs}
 use Rattle.bk_image.specs.Objects.{fits_subjects}
 use Rattle.bk_image.proofs.row.fits_subjects.Given as goal

@@ -1,4 +1,4 @@
-use Rattle.std.proofs.Common.{◌/◌, ◌∙◌, ap, sym, arith}
+use Rattle.std.proofs.Common.{◌/◌, ◌∙◌, sym, arith}
 use Rattle.bk_object.specs.Modes.{no_modes}
 use Rattle.bk_object.proofs.RowLemmas.{low_at, high_at}
 use Rattle.bk_image.proofs.row.modes_at.Goals as goal

@@ -1,4 +1,4 @@
-use Rattle.std.proofs.Common.{◌≡◌, ℕ, suc, ◌+◌, ◌-◌, ◌∷◌, ◌++◌, [], take, drop, length, replicate, refl, ap, sym, ◌∙◌, arith}
+use Rattle.std.proofs.Common.{◌≡◌, suc, ◌+◌, ◌-◌, ◌++◌, [], take, length, replicate, ap, sym, ◌∙◌, arith}
 use Rattle.bk_object.specs.Modes.{no_modes}
 use Rattle.bk_object.specs.Pairs.{split_pairs}
 use Rattle.bk_object.specs.Rows.{given}

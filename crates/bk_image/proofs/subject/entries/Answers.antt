@@ -1,4 +1,4 @@
-use Rattle.std.proofs.Common.{◌≡◌, ℕ, ◌<◌, List, [], ◌∷◌, length, take, drop, ap, sym, ◌∙◌, arith}
+use Rattle.std.proofs.Common.{◌≡◌, ℕ, List, [], ◌∷◌, length, take, drop, ap, ◌∙◌, arith}
 use Rattle.bk_image.specs.Numbers.{word, words_of}
 use Rattle.bk_image.proofs.Words.{next_word}
 use Rattle.bk_image.proofs.subject.entries.Goals as goal
