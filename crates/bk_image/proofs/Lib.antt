@@ -1,0 +1,5 @@
+pub mod Loops
+pub mod Words
+pub mod Ordered
+pub mod Pairs
+pub mod Shares

@@ -1,0 +1,54 @@
+-- The header. Each of its fields is a part.
+use Rattle.std.specs.Prelude.{ℕ, Bool, not, ◌&&◌, ◌==◌, List, [], ◌∷◌, Ok}
+use Rattle.bk_image.specs.declared.fault.ImageField.{ImageField}
+use Rattle.bk_image.specs.declared.fault.ImageField.TheVariants as field
+use Rattle.bk_image.specs.Parts.{Rest, Reads, ◌>>=◌, checked, is_outside}
+use Rattle.bk_image.specs.Numbers.{byte, word}
+
+-- the turns of a slot, and how many parts of each kind there are
+pub record Header : Type 0 where
+  pub turns : ℕ
+  pub levels : ℕ
+  pub subjects : ℕ
+  pub lines : ℕ
+  pub schedule : ℕ
+  pub objects : ℕ
+  pub holds : ℕ
+
+-- BLPK
+abbrev pub is_magic : List ℕ → Bool
+is_magic b = byte b 0 == 66 && byte b 1 == 76 && byte b 2 == 80 && byte b 3 == 75
+
+unfoldable pub magic_at : Rest → Reads (Unit {0})
+magic_at = checked 4 (λ b. (field.Magic, not (is_magic b)) ∷ []) (λ b. tt)
+
+-- a number of one byte, or of two, from low to high
+unfoldable pub byte_at : ImageField → ℕ → ℕ → Rest → Reads ℕ
+byte_at f low high = checked 1 (λ b. (f, is_outside low high (byte b 0)) ∷ []) (λ b. byte b 0)
+
+unfoldable pub word_at : ImageField → ℕ → ℕ → Rest → Reads ℕ
+word_at f low high = checked 2 (λ b. (f, is_outside low high (word b 0)) ∷ []) (λ b. word b 0)
+
+unfoldable pub header_at : Rest → Reads Header
+header_at rest = do
+  magic ← magic_at rest
+  version ← word_at field.Version 1 1 magic.1
+  turns ← word_at field.Turns 1 4096 version.1
+  levels ← byte_at field.Counts 1 64 turns.1
+  subjects ← byte_at field.Counts 1 32 levels.1
+  lines ← byte_at field.Counts 0 16 subjects.1
+  schedule ← byte_at field.Counts 1 64 lines.1
+  objects ← word_at field.Counts 1 3904 schedule.1
+  holds ← word_at field.Counts 0 65535 objects.1
+  Ok (
+    record {
+      turns = turns.0;
+      levels = levels.0;
+      subjects = subjects.0;
+      lines = lines.0;
+      schedule = schedule.0;
+      objects = objects.0;
+      holds = holds.0;
+    },
+    holds.1,
+  )

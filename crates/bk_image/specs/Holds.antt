@@ -1,0 +1,70 @@
+-- Holds: by which modes a subject holds an object at the start.
+use Rattle.std.specs.Prelude.{ℕ, Bool, true, not, ◌&&◌, ◌||◌, ◌==◌, nat_lt, List, [], ◌∷◌, length, map, slice_index_or, Option, Some, None, is_none}
+use Rattle.std.specs.Ordering.{is_lt}
+use Rattle.bk_level.specs.Levels.{Level, dominates, is_same_level, level_at}
+use Rattle.bk_path.specs.Paths.{Path, path_cmp, is_root, parent}
+use Rattle.bk_object.specs.Kinds.{kind_modes}
+use Rattle.bk_object.specs.Rows.{in_row}
+use Rattle.bk_object.specs.Modes.{Read, Execute, Write, Append, has, is_within}
+use Rattle.bk_object.specs.declared.modes.Modes.{Modes}
+use Rattle.bk_quota.specs.Charges.{passes}
+use Rattle.bk_state.specs.Start.{clearance_from}
+use Rattle.bk_state.specs.declared.image.Hold.{Hold}
+use Rattle.bk_state.specs.declared.image.SubjectRec.{SubjectRec}
+use Rattle.bk_state.specs.declared.process.Clearance.{Clearance}
+use Rattle.bk_image.specs.declared.fault.ImageField.TheVariants as field
+use Rattle.bk_image.specs.Parts.{Rest, Reads, Check, checked, last, is_outside}
+use Rattle.bk_image.specs.Numbers.{byte, path_in, path_at}
+use Rattle.bk_image.specs.Objects.{Objects, facts_at}
+
+-- subject, modes, path
+abbrev pub hold_of : List ℕ → Hold
+hold_of b = record { subject = byte b 0; modes = record { 0 = byte b 1 }; path = path_at b 2 }
+
+-- the subject's number is above the last one's, or is the same and the path stands above the last one's
+abbrev pub hold_follows : Option Hold → Hold → Bool
+hold_follows None hold = true
+hold_follows (Some last) hold = nat_lt last.subject hold.subject || last.subject == hold.subject && is_lt (path_cmp last.path hold.path)
+
+-- the numbers of the subject's greatest and its current level
+abbrev pub clearance_in : List SubjectRec → ℕ → Clearance
+clearance_in subjects n = slice_index_or (map clearance_from subjects) n (record { greatest = 0; current = 0 })
+
+abbrev pub greatest_in : List Level → List SubjectRec → ℕ → Level
+greatest_in levels subjects n = level_at levels (clearance_in subjects n).greatest
+
+abbrev pub current_in : List Level → List SubjectRec → ℕ → Level
+current_in levels subjects n = level_at levels (clearance_in subjects n).current
+
+-- for r, e and w the greatest level dominates the object's
+abbrev pub fits_ss : Modes → (greatest object : Level) → Bool
+fits_ss modes greatest object = not (has modes Read || has modes Execute || has modes Write) || dominates greatest object
+
+-- for r and e the current level dominates the object's, for w it is the object's, and for a the object's dominates it
+abbrev pub fits_star : Modes → (current object : Level) → Bool
+fits_star modes current object =
+    (not (has modes Read || has modes Execute) || dominates current object)
+    && (not (has modes Write) || is_same_level object current)
+    && (not (has modes Append) || dominates object current)
+
+-- the current level dominates that of the object at the parent
+abbrev pub dominates_parent : List Level → Objects → (current : Level) → Path → Bool
+dominates_parent levels objects current path = passes (λ above. dominates current (level_at levels above.level)) (facts_at objects (parent path))
+
+-- of the levels, the subjects, all objects, the holds before, whether the words are a path, and the hold
+abbrev pub hold_checks : List Level → List SubjectRec → Objects → List Hold → (is_path : Bool) → Hold → List Check
+hold_checks levels subjects objects before is_path hold =
+    (field.Subject, not (nat_lt hold.subject (length subjects)))
+    ∷ (field.Modes, is_outside 1 15 hold.modes.0)
+    ∷ (field.Path, not is_path)
+    ∷ (field.Path, not (hold_follows (last before) hold))
+    ∷ (field.Exists, is_none (facts_at objects hold.path))
+    ∷ (field.Kind, not (passes (λ facts. is_within hold.modes (kind_modes facts.kind)) (facts_at objects hold.path)))
+    ∷ (field.Row, not (passes (λ facts. is_within hold.modes (in_row facts.row hold.subject)) (facts_at objects hold.path)))
+    ∷ (field.Ss, not (passes (λ facts. fits_ss hold.modes (greatest_in levels subjects hold.subject) (level_at levels facts.level)) (facts_at objects hold.path)))
+    ∷ (field.Star, not (passes (λ facts. fits_star hold.modes (current_in levels subjects hold.subject) (level_at levels facts.level)) (facts_at objects hold.path)))
+    ∷ (field.Parent, not (is_root hold.path) && not (dominates_parent levels objects (current_in levels subjects hold.subject) hold.path))
+    ∷ []
+
+unfoldable pub hold_at : List Level → List SubjectRec → Objects → List Hold → Rest → Reads Hold
+hold_at levels subjects objects before = checked 6 (λ b. hold_checks levels subjects objects before (not (is_none (path_in b 2))) (hold_of b)) hold_of

@@ -1,0 +1,12 @@
+pub mod Texts
+pub mod Parts
+pub mod Numbers
+pub mod Header
+pub mod Subjects
+pub mod Objects
+pub mod Views
+pub mod Holds
+pub mod Image
+pub mod Spelling
+pub mod Accepted
+pub mod Writing

@@ -1,0 +1,94 @@
+-- The one spelling of each part.
+use Rattle.std.specs.Prelude.{◌≡◌, ℕ, ◌/◌, ◌%◌, take, List, [], ◌∷◌, ◌++◌, length, flat_map}
+use Rattle.bk_level.specs.Levels.{Level}
+use Rattle.bk_level.specs.Masks.{mask_of}
+use Rattle.bk_path.specs.Paths.{Path, pack}
+use Rattle.bk_object.specs.Kinds.{kind_number}
+use Rattle.bk_object.specs.Pairs.{joined_pairs}
+use Rattle.bk_object.specs.declared.kind.Kind.{Kind}
+use Rattle.bk_object.specs.declared.kind.Kind.TheVariants.{Directory, Segment, Mailbox, Line}
+use Rattle.bk_space.specs.declared.Mode.{Mode}
+use Rattle.bk_space.specs.declared.Mode.TheVariants.{Supervisor, User}
+use Rattle.bk_state.specs.declared.image.Image.{Image}
+use Rattle.bk_state.specs.declared.image.Hold.{Hold}
+use Rattle.bk_state.specs.declared.image.ObjectRec.{ObjectRec}
+use Rattle.bk_state.specs.declared.image.SubjectRec.{SubjectRec}
+use Rattle.bk_state.specs.declared.image.WindowRec.{WindowRec}
+use Rattle.bk_image.specs.Header.{Header}
+
+-- two bytes, the low one first
+abbrev pub word_bytes : ℕ → List ℕ
+word_bytes n = n % 256 ∷ n / 256 ∷ []
+
+abbrev pub words_bytes : List ℕ → List ℕ
+words_bytes [] = []
+words_bytes (n ∷ ns) = word_bytes n ++ words_bytes ns
+
+-- the two words of a path
+abbrev pub path_bytes : Path → List ℕ
+path_bytes path = word_bytes (pack path).0 ++ word_bytes (pack path).1
+
+-- BLPK, version 1, turns and the six counts
+abbrev pub header_bytes : Header → List ℕ
+header_bytes h =
+    (66 ∷ 76 ∷ 80 ∷ 75 ∷ []) ++ word_bytes 1 ++ word_bytes h.turns
+    ++ (h.levels ∷ []) ++ (h.subjects ∷ []) ++ (h.lines ∷ []) ++ (h.schedule ∷ []) ++ word_bytes h.objects ++ word_bytes h.holds
+
+abbrev pub level_bytes : Level → List ℕ
+level_bytes level = level.class ∷ 0 ∷ word_bytes (mask_of level.categories)
+
+abbrev pub mode_number : Mode → ℕ
+mode_number Supervisor = 1
+mode_number User = 3
+
+abbrev pub window_bytes : WindowRec → List ℕ
+window_bytes window = window.index ∷ path_bytes window.path
+
+-- the 39 bytes of a subject
+abbrev pub subject_record : SubjectRec → List ℕ
+subject_record s =
+    (s.f_s ∷ s.f_c ∷ mode_number s.mode ∷ mode_number s.previous ∷ []) ++ words_bytes s.regs
+    ++ word_bytes s.user_sp ++ word_bytes s.super_sp ++ word_bytes s.pc ++ words_bytes s.entries ++ (length s.windows ∷ [])
+
+abbrev pub subject_bytes : SubjectRec → List ℕ
+subject_bytes s = subject_record s ++ flat_map window_bytes s.windows
+
+-- the number of a line, and the blocks of all else
+abbrev pub blocks_byte : Kind → (blocks : ℕ) → ℕ
+blocks_byte Directory blocks = blocks
+blocks_byte Segment blocks = blocks
+blocks_byte Mailbox blocks = blocks
+blocks_byte (Line n) blocks = n
+
+-- the 28 bytes of an object
+abbrev pub object_record : ObjectRec → List ℕ
+object_record o =
+    path_bytes o.path ++ (kind_number o.facts.kind ∷ blocks_byte o.facts.kind o.facts.blocks ∷ o.facts.level ∷ 0 ∷ [])
+    ++ word_bytes o.facts.quota ++ joined_pairs o.facts.row ++ word_bytes (length o.words)
+
+abbrev pub object_bytes : ObjectRec → List ℕ
+object_bytes o = object_record o ++ words_bytes o.words
+
+abbrev pub hold_bytes : Hold → List ℕ
+hold_bytes hold = hold.subject ∷ hold.modes.0 ∷ path_bytes hold.path
+
+abbrev pub header_of : Image → Header
+header_of image = record {
+  turns = image.turns;
+  levels = length image.levels;
+  subjects = length image.subjects;
+  lines = image.lines;
+  schedule = length image.schedule;
+  objects = length image.objects;
+  holds = length image.holds;
+}
+
+abbrev pub spelling : Image → List ℕ
+spelling image =
+    header_bytes (header_of image) ++ flat_map level_bytes image.levels ++ image.schedule ++ flat_map subject_bytes image.subjects
+    ++ flat_map object_bytes image.objects ++ flat_map hold_bytes image.holds
+
+-- the first n bytes are the image's spelling
+pub record IsSpelt (bytes : List ℕ) (image : Image) (n : ℕ) : Type 0 where
+  pub text : take n bytes ≡ spelling image
+  pub count : n ≡ length (spelling image)

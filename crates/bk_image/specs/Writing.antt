@@ -1,0 +1,42 @@
+-- Writing: what doesn't fit its field is refused at 0; then the bytes have to be an image.
+use Rattle.std.specs.Prelude.{ℕ, Bool, true, ◌&&◌, ◌==◌, nat_lt, if◌then◌else◌, List, length, Result, Ok}
+use Rattle.std.specs.List.{list_all}
+use Rattle.bk_object.specs.declared.kind.Kind.{Kind}
+use Rattle.bk_object.specs.declared.kind.Kind.TheVariants.{Directory, Segment, Mailbox, Line}
+use Rattle.bk_state.specs.declared.image.Image.{Image}
+use Rattle.bk_state.specs.declared.image.ObjectRec.{ObjectRec}
+use Rattle.bk_state.specs.declared.image.SubjectRec.{SubjectRec}
+use Rattle.bk_image.specs.declared.fault.ImageFault.{ImageFault}
+use Rattle.bk_image.specs.declared.fault.ImageField.TheVariants as field
+use Rattle.bk_image.specs.Parts.{◌>>=◌, fault}
+use Rattle.bk_image.specs.Spelling.{spelling}
+use Rattle.bk_image.specs.Image.{image_of}
+
+-- the number of windows fits into a byte
+abbrev pub windows_fit : SubjectRec → Bool
+windows_fit s = nat_lt (length s.windows) 256
+
+-- a line has no blocks, since its number stands in their place
+abbrev pub blocks_fit : Kind → (blocks : ℕ) → Bool
+blocks_fit Directory blocks = true
+blocks_fit Segment blocks = true
+blocks_fit Mailbox blocks = true
+blocks_fit (Line n) blocks = blocks == 0
+
+-- the number of words fits into two bytes
+abbrev pub object_fits : ObjectRec → Bool
+object_fits o = nat_lt (length o.words) 65536 && blocks_fit o.facts.kind o.facts.blocks
+
+-- each count holds the number of what it counts, and each field its value
+abbrev pub counts_fit : Image → Bool
+counts_fit image =
+    nat_lt (length image.levels) 256
+    && nat_lt (length image.subjects) 256
+    && nat_lt (length image.schedule) 256
+    && nat_lt (length image.objects) 65536
+    && nat_lt (length image.holds) 65536
+    && list_all windows_fit image.subjects
+    && list_all object_fits image.objects
+
+unfoldable pub written : Image → Result (List ℕ) ImageFault
+written image = if counts_fit image then (image_of (spelling image) >>= λ i. Ok (spelling image)) else fault 0 field.Counts

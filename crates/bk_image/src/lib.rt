@@ -1,0 +1,30 @@
+//! Images: what a run starts from, read from bytes and written as bytes, and the first fault of bytes that are no image.
+//!
+//! Model: `specs/Parts.antt` (parts, places and faults), `specs/Header.antt`, `specs/Subjects.antt`, `specs/Objects.antt` and
+//! `specs/Holds.antt` (each kind of part, its checks in their order), `specs/Image.antt` (`image_of`: the image, or the first
+//! fault), `specs/Spelling.antt` (`spelling`), `specs/Accepted.antt` (`IsAccepted`). `specs/Views.antt` says what the code keeps.
+//! Calls: `read_image`; `ImageField::text`.
+//! Proved: `read_image` gives exactly the image that the first bytes spell and their number, or exactly the first fault and its place; each field has its text. Writing is still to come.
+//! Stands on: `bitflags`, `byteorder`, `bk_base`, `bk_level`, `bk_object`, `bk_path`, `bk_quota`, `bk_space`, `bk_state`.
+#![tactic(auto)]
+
+mod fault;
+mod header;
+mod hold;
+mod level;
+mod lookup;
+mod object;
+mod part;
+mod quota;
+mod reading;
+mod rest;
+mod row;
+mod schedule;
+mod subject;
+mod window;
+
+pub use bk_state::{
+    Hold, Holds, Image, ObjectRec, Objects, SubjectRec, Subjects, WindowRec, Windows,
+};
+pub use fault::{ImageFault, ImageField, ImageStop};
+pub use reading::read_image;
