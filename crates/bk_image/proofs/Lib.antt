@@ -1,0 +1,9 @@
+pub mod SecureLists
+pub mod SecureFound
+pub mod SecureObjects
+pub mod SecureKinds
+pub mod SecureCells
+pub mod SecureRows
+pub mod SecureAccess
+pub mod SecureSubjects
+pub mod Secure
