@@ -1,0 +1,4 @@
+pub mod Takes
+pub mod Spelt
+pub mod Steps
+pub mod SpeltImage
