@@ -1,66 +1,71 @@
--- A reading of an image that found no fault, as its steps.
-use Rattle.std.proofs.Common.{◌≡◌, ℕ, List, [], Ok}
+-- What is still read of a header, and of an image, after each of its parts.
+use Rattle.std.proofs.Common.{ℕ, List, [], Ok}
 use Rattle.bk_level.specs.Levels.{Level}
 use Rattle.bk_state.specs.declared.image.Image.{Image}
 use Rattle.bk_state.specs.declared.image.Hold.{Hold}
 use Rattle.bk_state.specs.declared.image.ObjectRec.{ObjectRec}
 use Rattle.bk_state.specs.declared.image.SubjectRec.{SubjectRec}
+use Rattle.bk_image.specs.declared.fault.ImageField.TheVariants as field
 use Rattle.bk_image.specs.Parts.{Rest, Reads, ◌>>=◌, each_of}
-use Rattle.bk_image.specs.Header.{Header, header_at}
+use Rattle.bk_image.specs.Header.{Header, byte_at, word_at}
 use Rattle.bk_image.specs.Subjects.{level_at, schedule_at, subject_at}
 use Rattle.bk_image.specs.Objects.{objects_in, object_at, after_objects}
 use Rattle.bk_image.specs.Holds.{hold_at}
-use Rattle.bk_image.specs.Image.{image_at}
-use Rattle.bk_image.proofs.Takes.{bind_ok, ok_is}
+
+-- ---- the header
+
+abbrev pub counted : (turns levels subjects lines schedule objects holds : ℕ) → Header
+counted turns levels subjects lines schedule objects holds = record { turns = turns; levels = levels; subjects = subjects; lines = lines; schedule = schedule; objects = objects; holds = holds }
+
+abbrev pub from_holds : (turns levels subjects lines schedule objects : ℕ) → ℕ × Rest → Reads Header
+from_holds turns levels subjects lines schedule objects x = Ok (counted turns levels subjects lines schedule objects x.0, x.1)
+
+abbrev pub from_objects : (turns levels subjects lines schedule : ℕ) → ℕ × Rest → Reads Header
+from_objects turns levels subjects lines schedule x = word_at field.Counts 0 65535 x.1 >>= from_holds turns levels subjects lines schedule x.0
+
+abbrev pub from_schedule : (turns levels subjects lines : ℕ) → ℕ × Rest → Reads Header
+from_schedule turns levels subjects lines x = word_at field.Counts 1 3904 x.1 >>= from_objects turns levels subjects lines x.0
+
+abbrev pub from_lines : (turns levels subjects : ℕ) → ℕ × Rest → Reads Header
+from_lines turns levels subjects x = byte_at field.Counts 1 64 x.1 >>= from_schedule turns levels subjects x.0
+
+abbrev pub from_subjects : (turns levels : ℕ) → ℕ × Rest → Reads Header
+from_subjects turns levels x = byte_at field.Counts 0 16 x.1 >>= from_lines turns levels x.0
+
+abbrev pub from_levels : (turns : ℕ) → ℕ × Rest → Reads Header
+from_levels turns x = byte_at field.Counts 1 32 x.1 >>= from_subjects turns x.0
+
+abbrev pub from_turns : ℕ × Rest → Reads Header
+from_turns x = byte_at field.Counts 1 64 x.1 >>= from_levels x.0
+
+abbrev pub from_version : ℕ × Rest → Reads Header
+from_version x = word_at field.Turns 1 4096 x.1 >>= from_turns
+
+abbrev pub from_magic : Unit {0} × Rest → Reads Header
+from_magic x = word_at field.Version 1 1 x.1 >>= from_version
+
+-- ---- the image
 
 abbrev pub made : (turns lines : ℕ) → List Level → List ℕ → List SubjectRec → List ObjectRec → List Hold → Image
 made turns lines levels schedule subjects objects holds = record { turns = turns; levels = levels; lines = lines; schedule = schedule; subjects = subjects; objects = objects; holds = holds }
 
-pub record IsRead (rest : Rest) (x : Image × Rest) : Type 0 where
-  pub header : Header × Rest
-  pub levels : List Level × Rest
-  pub schedule : List ℕ × Rest
-  pub subjects : List SubjectRec × Rest
-  pub objects : List ObjectRec × Rest
-  pub holds : List Hold × Rest
-  pub header_ok : header_at rest ≡ Ok header
-  pub levels_ok : each_of level_at header.0.levels [] header.1 ≡ Ok levels
-  pub schedule_ok : each_of (schedule_at header.0.subjects) header.0.schedule [] levels.1 ≡ Ok schedule
-  pub subjects_ok : each_of (subject_at levels.0) header.0.subjects [] schedule.1 ≡ Ok subjects
-  pub objects_ok : each_of (object_at levels.0 header.0.subjects header.0.lines) header.0.objects [] subjects.1 ≡ Ok objects
-  pub after_ok : after_objects header.0.lines objects.0 subjects.1.at ≡ Ok tt
-  pub holds_ok : each_of (hold_at levels.0 subjects.0 (objects_in objects.0)) header.0.holds [] objects.1 ≡ Ok holds
-  pub is : (made header.0.turns header.0.lines levels.0 schedule.0 subjects.0 objects.0 holds.0, holds.1) ≡ x
+abbrev pub image_from_holds : Header → List Level → List ℕ → List SubjectRec → List ObjectRec → List Hold × Rest → Reads Image
+image_from_holds h levels schedule subjects objects x = Ok (made h.turns h.lines levels schedule subjects objects x.0, x.1)
 
-pub image_ok : (rest : Rest) (x : Image × Rest) → image_at rest ≡ Ok x → IsRead rest x
-unfolding image_at
-image_ok rest x e =
-    let k6 : Header → List Level → List ℕ → List SubjectRec → List ObjectRec → List Hold × Rest → Reads Image = λ h levels schedule subjects objects holds. Ok (made h.turns h.lines levels schedule subjects objects holds.0, holds.1) in
-    let k5 : Header → List Level → List ℕ → List SubjectRec → ℕ → List ObjectRec × Rest → Reads Image = λ h levels schedule subjects start objects. after_objects h.lines objects.0 start >>= λ passed. each_of (hold_at levels subjects (objects_in objects.0)) h.holds [] objects.1 >>= k6 h levels schedule subjects objects.0 in
-    let k4 : Header → List Level → List ℕ → List SubjectRec × Rest → Reads Image = λ h levels schedule subjects. each_of (object_at levels h.subjects h.lines) h.objects [] subjects.1 >>= k5 h levels schedule subjects.0 subjects.1.at in
-    let k3 : Header → List Level → List ℕ × Rest → Reads Image = λ h levels schedule. each_of (subject_at levels) h.subjects [] schedule.1 >>= k4 h levels schedule.0 in
-    let k2 : Header → List Level × Rest → Reads Image = λ h levels. each_of (schedule_at h.subjects) h.schedule [] levels.1 >>= k3 h levels.0 in
-    let k1 : Header × Rest → Reads Image = λ h. each_of level_at h.0.levels [] h.1 >>= k2 h.0 in
-    let h = bind_ok (header_at rest) k1 x e in
-    let l = bind_ok (each_of level_at h.0.0.levels [] h.0.1) (k2 h.0.0) x h.2 in
-    let c = bind_ok (each_of (schedule_at h.0.0.subjects) h.0.0.schedule [] l.0.1) (k3 h.0.0 l.0.0) x l.2 in
-    let s = bind_ok (each_of (subject_at l.0.0) h.0.0.subjects [] c.0.1) (k4 h.0.0 l.0.0 c.0.0) x c.2 in
-    let o = bind_ok (each_of (object_at l.0.0 h.0.0.subjects h.0.0.lines) h.0.0.objects [] s.0.1) (k5 h.0.0 l.0.0 c.0.0 s.0.0 s.0.1.at) x s.2 in
-    let a = bind_ok (after_objects h.0.0.lines o.0.0 s.0.1.at) (λ passed. each_of (hold_at l.0.0 s.0.0 (objects_in o.0.0)) h.0.0.holds [] o.0.1 >>= k6 h.0.0 l.0.0 c.0.0 s.0.0 o.0.0) x o.2 in
-    let d = bind_ok (each_of (hold_at l.0.0 s.0.0 (objects_in o.0.0)) h.0.0.holds [] o.0.1) (k6 h.0.0 l.0.0 c.0.0 s.0.0 o.0.0) x a.2 in
-    record {
-      header = h.0;
-      levels = l.0;
-      schedule = c.0;
-      subjects = s.0;
-      objects = o.0;
-      holds = d.0;
-      header_ok = h.1;
-      levels_ok = l.1;
-      schedule_ok = c.1;
-      subjects_ok = s.1;
-      objects_ok = o.1;
-      after_ok = a.1;
-      holds_ok = d.1;
-      is = ok_is (made h.0.0.turns h.0.0.lines l.0.0 c.0.0 s.0.0 o.0.0 d.0.0, d.0.1) x d.2;
-    }
+abbrev pub image_from_checks : Header → List Level → List ℕ → List SubjectRec → List ObjectRec → Rest → Reads Image
+image_from_checks h levels schedule subjects objects rest = each_of (hold_at levels subjects (objects_in objects)) h.holds [] rest >>= image_from_holds h levels schedule subjects objects
+
+abbrev pub image_from_objects : Header → List Level → List ℕ → List SubjectRec → (start : ℕ) → List ObjectRec × Rest → Reads Image
+image_from_objects h levels schedule subjects start x = after_objects h.lines x.0 start >>= λ passed. image_from_checks h levels schedule subjects x.0 x.1
+
+abbrev pub image_from_subjects : Header → List Level → List ℕ → List SubjectRec × Rest → Reads Image
+image_from_subjects h levels schedule x = each_of (object_at levels h.subjects h.lines) h.objects [] x.1 >>= image_from_objects h levels schedule x.0 x.1.at
+
+abbrev pub image_from_schedule : Header → List Level → List ℕ × Rest → Reads Image
+image_from_schedule h levels x = each_of (subject_at levels) h.subjects [] x.1 >>= image_from_subjects h levels x.0
+
+abbrev pub image_from_levels : Header → List Level × Rest → Reads Image
+image_from_levels h x = each_of (schedule_at h.subjects) h.schedule [] x.1 >>= image_from_schedule h x.0
+
+abbrev pub image_from_header : Header × Rest → Reads Image
+image_from_header x = each_of level_at x.0.levels [] x.1 >>= image_from_levels x.0
