@@ -2,3 +2,4 @@ pub mod Takes
 pub mod Spelt
 pub mod Steps
 pub mod SpeltImage
+pub mod Grown
