@@ -1,3 +1,8 @@
+pub mod Takes
+pub mod Spelt
+pub mod Steps
+pub mod SpeltImage
+pub mod Grown
 pub mod SecureLists
 pub mod SecureFound
 pub mod SecureObjects

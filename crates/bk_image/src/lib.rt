@@ -9,8 +9,10 @@
 #![tactic(auto)]
 
 mod fault;
+mod laws;
 
 pub use bk_state::{
     Hold, Holds, Image, ObjectRec, Objects, SubjectRec, Subjects, WindowRec, Windows,
 };
 pub use fault::{ImageFault, ImageField, ImageStop};
+pub use laws::law_no_prefix;
