@@ -12,3 +12,6 @@ pub mod SecureRows
 pub mod SecureAccess
 pub mod SecureSubjects
 pub mod Secure
+pub mod PassedParts
+pub mod PassedKinds
+pub mod Passed
