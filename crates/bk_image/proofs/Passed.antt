@@ -1,4 +1,4 @@
--- An image that was read is accepted, and so its state is secure.
+-- An image that was read is accepted, and its state is secure.
 use Rattle.std.proofs.Common.{◌≡◌, ℕ, ◌≤◌, true, List, [], ◌∷◌, ◌++◌, length, Result, Ok, Err, sym, subst}
 use Rattle.std.specs.Prelude.{IfOk}
 use Rattle.bk_level.specs.Levels.{Level}

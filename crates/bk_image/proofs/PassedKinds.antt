@@ -1,5 +1,5 @@
 -- Of one part of each kind that was read, its checks passed; and those after all objects.
-use Rattle.std.proofs.Common.{◌≡◌, ℕ, ◌+◌, ◌*◌, true, false, not, ◌==◌, List, [], ◌∷◌, ◌++◌, length, Ok, refl, sym, ap, subst, ◌∙◌}
+use Rattle.std.proofs.Common.{◌≡◌, ℕ, ◌+◌, ◌*◌, true, false, not, ◌==◌, List, [], ◌∷◌, ◌++◌, length, Ok, refl, sym, subst}
 use Rattle.std.specs.Prelude.{nat_lt, is_none}
 use Rattle.bk_level.specs.Levels.{Level}
 use Rattle.bk_state.specs.declared.image.Hold.{Hold}
@@ -50,7 +50,7 @@ subject_passed levels before rest x e =
     let p : Passes (subject_fails levels a.0.0) = subst (λ (b : List ℕ). Passes (subject_fails levels b)) is passed in
     let (count, windows) = each_read (λ front window. Passes (window_checks front true window)) window_at window_passed (byte a.0.0 38) a.0.1 w.0 w.1 in
     subst (λ (y : SubjectRec × Rest). SubjectPassed levels y.0) q (record {
-      passed = (p.0, (p.1.0, (p.1.1.0, (refl, (p.1.1.1.1.0, (ap (nat_lt 32) count ∙ p.1.1.1.1.1.0, tt))))));
+      passed = (p.0, (p.1.0, (p.1.1.0, (refl, (p.1.1.1.1.0, (subst (λ n. nat_lt 32 n ≡ false) (sym count) p.1.1.1.1.1.0, tt))))));
       windows = windows;
     })
 
@@ -93,7 +93,7 @@ object_passed levels subjects lines before rest x e =
                             p.1.1.1.1.1.1.1.1.1.1.0,
                             (
                               p.1.1.1.1.1.1.1.1.1.1.1.0,
-                              (ap (nat_lt (room (object_of a.0.0 []).facts)) count ∙ p.1.1.1.1.1.1.1.1.1.1.1.1.0, tt),
+                              (subst (λ n. nat_lt (room (object_of a.0.0 []).facts) n ≡ false) (sym count) p.1.1.1.1.1.1.1.1.1.1.1.1.0, tt),
                             ),
                           ),
                         ),

@@ -1,11 +1,11 @@
 -- What follows of each part that was read, by the checks that it passed.
-use Rattle.std.proofs.Common.{◌≡◌, ℕ, zero, suc, ◌*◌, ◌≤◌, false, List, [], ◌∷◌, ◌++◌, length, take, Ok, refl, sym, ap, subst, ◌∙◌, append_assoc, arith, length-take}
-use Rattle.std.proofs.lemmas.Bool.Decides.{nat_tests}
+use Rattle.std.proofs.Common.{◌≡◌, ℕ, zero, suc, ◌*◌, ◌≤◌, List, [], ◌∷◌, ◌++◌, length, take, Ok, refl, sym, ap, subst, ◌∙◌, append_assoc, arith, length-take}
 use Rattle.std.proofs.lemmas.List.{append-nil}
 use Rattle.bk_image.specs.declared.fault.ImageField.{ImageField}
 use Rattle.bk_image.specs.Parts.{Rest, Reads, Check, Passes, ◌>>=◌, first_failing, part, checked, each_of, is_outside}
 use Rattle.bk_image.specs.Numbers.{byte, word, words_of}
 use Rattle.bk_image.specs.Header.{byte_at, word_at}
+use Rattle.bk_image.proofs.SecureLists.{within}
 use Rattle.bk_image.proofs.Takes.{bind_ok, ok_is, all_pass, part_ok}
 
 -- the checks of a part that was read passed, of the bytes that give its value
@@ -31,9 +31,6 @@ words_length zero (low ∷ high ∷ b) is = absurd (omega (arith, is))
 words_length (suc count) (low ∷ high ∷ b) is = ap suc (words_length count b (omega (arith, is)))
 
 -- ---- numbers
-
-within : (low high x : ℕ) → is_outside low high x ≡ false → (low ≤ x) × (x ≤ high)
-within low high x h = (grind (arith, nat_tests, h), grind (arith, nat_tests, h))
 
 pub byte_within : (f : ImageField) (low high : ℕ) (rest : Rest) (x : ℕ × Rest) → byte_at f low high rest ≡ Ok x → (low ≤ x.0) × (x.0 ≤ high)
 unfolding byte_at

@@ -4,6 +4,7 @@ use Rattle.std.specs.Prelude.{flat_map}
 use Rattle.std.specs.Ordering.{eq_by_cmp}
 use Rattle.std.specs.List.{list_any}
 use Rattle.std.specs.FinSet as set
+use Rattle.bk_level.proofs.LevelOrder.{and_both}
 use Rattle.bk_level.specs.Levels.{Level, dominates, is_same_level, level_at}
 use Rattle.bk_object.specs.Modes.{Mode, Read, Execute, Write, Append, has, is_within}
 use Rattle.bk_object.specs.Rows.{in_row}
@@ -20,7 +21,7 @@ use Rattle.bk_state.proofs.Triples.{same_triple}
 use Rattle.bk_image.specs.Objects.{objects_in, facts_at}
 use Rattle.bk_image.specs.Holds.{greatest_in, current_in, fits_ss, fits_star, dominates_parent}
 use Rattle.bk_image.specs.Accepted.{IsAccepted}
-use Rattle.bk_image.proofs.SecureLists.{Stands, and_both, implied, not_false, passes_some, any_joined, any_kept}
+use Rattle.bk_image.proofs.SecureLists.{Stands, implied, not_false, all_three, passes_some, any_joined, any_kept}
 use Rattle.bk_image.proofs.SecureRows.{within_has}
 
 -- the hold by which a subject holds the object by the mode
@@ -45,12 +46,6 @@ held image s path mode h =
 ss_any : (r e w d : Bool) → (not (r || e || w) || d) ≡ true → (r || e || w) ≡ true → d ≡ true
 ss_any r e w d h any = implied (r || e || w) d h any
 
-three : (a b c : Bool) → (a && b && c) ≡ true → (a ≡ true) × (b ≡ true) × (c ≡ true)
-three true true true h = (refl, refl, refl)
-three true true false h = cc
-three true false c h = cc
-three false b c h = cc
-
 or_first : (a b : Bool) → a ≡ true → (a || b) ≡ true
 or_first a b h = ap (λ x. x || b) h
 
@@ -60,7 +55,7 @@ or_second false b h = h
 
 -- the two tests of a hold are those of each of its modes
 allowed : (mode : Mode) (modes : Modes) (greatest current object : Level) → has modes mode ≡ true → fits_ss modes greatest object ≡ true → fits_star modes current object ≡ true → allows mode greatest current object ≡ true
-allowed mode modes greatest current object h ss star = by mode h (three (not (r || e) || dominates current object) (not w || is_same_level object current) (not a || dominates object current) star)
+allowed mode modes greatest current object h ss star = by mode h (all_three (not (r || e) || dominates current object) (not w || is_same_level object current) (not a || dominates object current) star)
   where
     r : Bool
     r = has modes Read

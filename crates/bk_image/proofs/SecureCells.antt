@@ -1,7 +1,6 @@
 -- The cells of the state of an accepted image: who has one, its limit, and that no more is used than there is.
-use Rattle.std.proofs.Common.{◌≡◌, ℕ, ◌≤◌, Bool, true, false, not, ◌&&◌, ◌||◌, ◌==◌, [], ◌∷◌, Option, Some, None, unwrap_or, refl, sym, ap, subst, ◌∙◌, ◌⊎◌, inl, inr, arith}
+use Rattle.std.proofs.Common.{◌≡◌, ℕ, ◌≤◌, Bool, true, false, not, ◌&&◌, ◌||◌, ◌==◌, [], ◌∷◌, Option, Some, None, unwrap_or, refl, sym, ap, subst, ◌∙◌, ◌⊎◌, inl, inr}
 use Rattle.std.specs.Prelude.{option_map, nat_lt}
-use Rattle.std.proofs.lemmas.Bool.Decides.{nat_tests}
 use Rattle.bk_level.specs.Levels.{dominates, level_at}
 use Rattle.bk_object.specs.Kinds.{is_directory}
 use Rattle.bk_object.specs.declared.facts.Facts.{Facts}
@@ -12,10 +11,9 @@ use Rattle.bk_state.specs.Secure.{HasCell}
 use Rattle.bk_state.specs.Start.{state_of}
 use Rattle.bk_state.specs.declared.image.Image.{Image}
 use Rattle.bk_state.specs.declared.image.ObjectRec.{ObjectRec}
-use Rattle.bk_image.specs.Parts.{is_outside}
 use Rattle.bk_image.specs.Objects.{Objects, objects_in, facts_at, has_cell, level_above, fits_cell, used_at}
 use Rattle.bk_image.specs.Accepted.{IsAccepted}
-use Rattle.bk_image.proofs.SecureLists.{Stands, passes_some}
+use Rattle.bk_image.proofs.SecureLists.{Stands, passes_some, not_true, zero_of, le_of, within}
 use Rattle.bk_image.proofs.SecureFound.{found_facts, kept}
 use Rattle.bk_image.proofs.SecureObjects.{checked_at, above, facts_of_root}
 
@@ -93,24 +91,18 @@ cell_found image accepted (entry ∷ path) (inr up) =
 abbrev quota_in_objects : Option Facts → ℕ
 quota_in_objects facts = unwrap_or (option_map (λ f. f.quota) facts) 0
 
-within : (low high x : ℕ) → not (is_outside low high x) ≡ true → (low ≤ x) × (x ≤ high)
-within low high x h = (grind (arith, nat_tests, h), grind (arith, nat_tests, h))
-
 pub limits_secure : (image : Image) → IsAccepted image → (path : Path) → HasCell (state_of image) path → (1 ≤ quota_at (state_of image) path) × (quota_at (state_of image) path ≤ 3904)
 unfolding state_of objects_in
 limits_secure image accepted path cell =
     let f = cell_found image accepted path cell in
     let c = checked_at image accepted f.o f.stands in
-    let quota : (1 ≤ f.o.facts.quota) × (f.o.facts.quota ≤ 3904) = within 1 3904 f.o.facts.quota (subst (λ b. fits_cell b f.o.facts.quota ≡ true) f.before c.quota) in
+    let quota : (1 ≤ f.o.facts.quota) × (f.o.facts.quota ≤ 3904) = within 1 3904 f.o.facts.quota (not_true _ (subst (λ b. fits_cell b f.o.facts.quota ≡ true) f.before c.quota)) in
     subst (λ facts. (1 ≤ quota_in_objects facts) × (quota_in_objects facts ≤ 3904)) (sym f.here) quota
 
 pub no_limits_secure : (image : Image) → IsAccepted image → (path : Path) → ¬ HasCell (state_of image) path → quota_at (state_of image) path ≡ 0
 unfolding state_of objects_in
 no_limits_secure image accepted path none = by (facts_at (objects_in image.objects) path) refl
   where
-    zero_of : (n : ℕ) → (n == 0) ≡ true → n ≡ 0
-    zero_of n h = grind (arith, nat_tests, h)
-
     cell : (o : ObjectRec) (at : Stands image.objects o) (p : Path) → o.path ≡ p → facts_at (objects_in image.objects) p ≡ Some o.facts → has_cell (objects_in at.front) o ≡ true → HasCellIn (objects_in image.objects) p
     cell o at [] is here has = inl refl
     cell o at (entry ∷ p) is here has = inr ((same_cell image accepted o at entry p is here).before ∙ has)
@@ -136,5 +128,5 @@ quotas_secure image accepted path cell =
     (subst (λ p. used_at (objects_in image.objects) p ≤ f.o.facts.quota) f.path_is at_path)
   where
     no_more : (b : Bool) (quota n : ℕ) → b ≡ true → b && nat_lt quota n ≡ false → n ≤ quota
-    no_more true quota n has h = grind (arith, nat_tests, h)
+    no_more true quota n has h = le_of n quota h
     no_more false quota n has h = cc

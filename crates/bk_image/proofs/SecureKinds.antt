@@ -1,5 +1,5 @@
 -- Each object of the state of an accepted image has the blocks and the contents of its kind, and no two have one line.
-use Rattle.std.proofs.Common.{◌≡◌, ℕ, ◌+◌, ◌*◌, ◌-◌, ◌≤◌, ◌<◌, Bool, true, false, not, ◌&&◌, ◌==◌, List, length, map, replicate, Some, find as first, unwrap_or, refl, sym, ap, subst, ◌∙◌, inl, inr, arith}
+use Rattle.std.proofs.Common.{◌≡◌, ℕ, ◌+◌, ◌*◌, ◌-◌, ◌≤◌, ◌<◌, true, false, ◌==◌, List, length, map, replicate, Some, find as first, unwrap_or, refl, sym, ap, subst, ◌∙◌, inl, inr, arith}
 use Rattle.std.specs.Prelude.{option_map, nat_lt, slice_index}
 use Rattle.std.specs.List.{list_any, range_with_len}
 use Rattle.std.proofs.lemmas.Bool.Decides.{nat_tests}
@@ -15,34 +15,11 @@ use Rattle.bk_state.specs.Secure.{FitsKind}
 use Rattle.bk_state.specs.Start.{state_of, contents_from, padded, is_line, line_level}
 use Rattle.bk_state.specs.declared.image.Image.{Image}
 use Rattle.bk_state.specs.declared.image.ObjectRec.{ObjectRec}
-use Rattle.bk_image.specs.Parts.{is_outside}
 use Rattle.bk_image.specs.Objects.{objects_in, fits_kind, room}
 use Rattle.bk_image.specs.Accepted.{IsAccepted}
-use Rattle.bk_image.proofs.SecureLists.{Stands, first_at, stands_any, stands_apart}
+use Rattle.bk_image.proofs.SecureLists.{Stands, first_at, stands_any, stands_apart, not_true, all_three, zero_of, lt_of, le_of, within}
 use Rattle.bk_image.proofs.SecureFound.{found, found_facts}
 use Rattle.bk_image.proofs.SecureObjects.{checked_at}
-
-zero_of : (n : ℕ) → (n == 0) ≡ true → n ≡ 0
-zero_of n h = grind (arith, nat_tests, h)
-
-lt_of : (a b : ℕ) → nat_lt a b ≡ true → a < b
-lt_of a b h = grind (arith, nat_tests, h)
-
-le_of : (a b : ℕ) → nat_lt b a ≡ false → a ≤ b
-le_of a b h = grind (arith, nat_tests, h)
-
-within : (low high x : ℕ) → not (is_outside low high x) ≡ true → (low ≤ x) × (x ≤ high)
-within low high x h = (grind (arith, nat_tests, h), grind (arith, nat_tests, h))
-
-three : (a b c : Bool) → (a && b && c) ≡ true → (a ≡ true) × (b ≡ true) × (c ≡ true)
-three true true true h = (refl, refl, refl)
-three true true false h = cc
-three true false c h = cc
-three false b c h = cc
-
-not_true : (a : Bool) → not a ≡ true → a ≡ false
-not_true true h = cc
-not_true false h = refl
 
 padded_length : (blocks : ℕ) (words : List ℕ) → length words ≤ 32 * blocks → length (padded blocks words) ≡ 32 * blocks
 padded_length blocks words le = length-append words (replicate (32 * blocks - length words) 0) ∙ ap (λ n. length words + n) (length-replicate (32 * blocks - length words) 0) ∙ omega arith
@@ -57,18 +34,18 @@ kind_fits : (fixed : Fixed) (lines : ℕ) (before : List ObjectRec) (kind : Kind
     FitsKind fixed kind (facts_with kind blocks level quota row) (contents_from kind blocks words)
 kind_fits fixed lines before Directory blocks level quota row words fits fit line = (zero_of blocks fits, refl)
 kind_fits fixed lines before Segment blocks level quota row words fits fit line =
-    let (low, high) = within 1 128 blocks fits in
+    let (low, high) = within 1 128 blocks (not_true _ fits) in
     (low, high, padded_length blocks words (le_of (length words) (32 * blocks) fit))
 kind_fits fixed lines before Mailbox blocks level quota row words fits fit line = (zero_of blocks fits, omega arith, refl, omega arith)
 kind_fits fixed lines before (Line n) blocks level quota row words fits fit line =
-    let (none, low, fresh) = three _ _ _ fits in
+    let (none, low, fresh) = all_three _ _ _ fits in
     let (inside, same) = line n refl in
     (zero_of blocks none, omega arith, inside, same)
 
 -- a line's number is below the lines, and no object before has it
 pub line_is : (lines : ℕ) (before : List ObjectRec) (kind : Kind) (blocks n : ℕ) → fits_kind lines before kind blocks ≡ true → kind ≡ Line n → (n < lines) × (list_any (λ o. is_line n o.facts.kind) before ≡ false)
 line_is lines before kind blocks n fits is =
-    let (none, low, fresh) = three _ _ _ (subst (λ k. fits_kind lines before k blocks ≡ true) is fits) in
+    let (none, low, fresh) = all_three _ _ _ (subst (λ k. fits_kind lines before k blocks ≡ true) is fits) in
     (lt_of n lines low, not_true _ fresh)
 
 has_number : (kind : Kind) (n : ℕ) → kind ≡ Line n → is_line n kind ≡ true

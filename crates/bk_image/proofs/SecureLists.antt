@@ -1,22 +1,14 @@
 -- Lists, options and tests, as the proofs of what an accepted image is need them.
-use Rattle.std.proofs.Common.{◌≡◌, ℕ, zero, suc, Bool, true, false, cond, not, ◌&&◌, ◌||◌, List, [], ◌∷◌, ◌++◌, map, filter, Option, Some, None, find as first, get_or, refl, sym, ap, subst, ◌∙◌, ◌⊎◌, inl, inr, ◌<◌, length, arith}
+use Rattle.std.proofs.Common.{◌≡◌, ℕ, zero, suc, Bool, true, false, cond, not, ◌&&◌, ◌||◌, List, [], ◌∷◌, ◌++◌, map, filter, Option, Some, None, find as first, get_or, refl, sym, ap, subst, ◌∙◌, ◌⊎◌, inl, inr, ◌<◌, ◌≤◌, ◌==◌, length, arith}
 use Rattle.std.proofs.lemmas.List.Folds.{list_any-append}
-use Rattle.std.specs.Prelude.{option_map, flat_map}
+use Rattle.std.specs.Prelude.{option_map, nat_lt, flat_map}
 use Rattle.std.specs.List.{list_any, list_all}
+use Rattle.std.proofs.lemmas.Bool.Decides.{nat_tests}
+use Rattle.bk_level.proofs.LevelOrder.{and_first, and_second, and_both}
 use Rattle.bk_quota.specs.Charges.{passes}
+use Rattle.bk_image.specs.Parts.{is_outside}
 
 -- ---- tests
-
-pub and_first : (a b : Bool) → (a && b) ≡ true → a ≡ true
-and_first true b both = refl
-and_first false b both = cc
-
-pub and_second : (a b : Bool) → (a && b) ≡ true → b ≡ true
-and_second true b both = both
-and_second false b both = cc
-
-pub and_both : (a b : Bool) → a ≡ true → b ≡ true → (a && b) ≡ true
-and_both a b one two = λ i. one i && two i
 
 pub or_cases : (a b : Bool) → (a || b) ≡ true → (a ≡ true) ⊎ (b ≡ true)
 or_cases true b either = inl refl
@@ -29,6 +21,16 @@ or_none false b neither = (refl, neither)
 pub not_false : (a : Bool) → not a ≡ false → a ≡ true
 not_false true h = refl
 not_false false h = cc
+
+pub not_true : (a : Bool) → not a ≡ true → a ≡ false
+not_true true h = cc
+not_true false h = refl
+
+pub all_three : (a b c : Bool) → (a && b && c) ≡ true → (a ≡ true) × (b ≡ true) × (c ≡ true)
+all_three true true true h = (refl, refl, refl)
+all_three true true false h = cc
+all_three true false c h = cc
+all_three false b c h = cc
 
 -- a test that is asked only where another holds
 pub implied : (a b : Bool) → (not a || b) ≡ true → a ≡ true → b ≡ true
@@ -47,6 +49,20 @@ passes_some f (Some x) h = (x, refl, h)
 pub mapped_some : {A B : Type 0} (f : A → B) (a : Option A) (y : B) → option_map f a ≡ Some y → (x : A) × (a ≡ Some x) × (f x ≡ y)
 mapped_some f None y h = cc
 mapped_some f (Some x) y h = (x, refl, cc)
+
+-- ---- tests of numbers
+
+pub zero_of : (n : ℕ) → (n == 0) ≡ true → n ≡ 0
+zero_of n h = grind (arith, nat_tests, h)
+
+pub lt_of : (a b : ℕ) → nat_lt a b ≡ true → a < b
+lt_of a b h = grind (arith, nat_tests, h)
+
+pub le_of : (a b : ℕ) → nat_lt b a ≡ false → a ≤ b
+le_of a b h = grind (arith, nat_tests, h)
+
+pub within : (low high x : ℕ) → is_outside low high x ≡ false → (low ≤ x) × (x ≤ high)
+within low high x h = (grind (arith, nat_tests, h), grind (arith, nat_tests, h))
 
 -- ---- where a value stands in a list
 

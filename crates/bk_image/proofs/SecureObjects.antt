@@ -1,7 +1,6 @@
 -- What the checks of an accepted image say of each object of its state: root, parents, levels.
 use Rattle.std.proofs.Common.{◌≡◌, ℕ, ◌≤◌, ◌<◌, Bool, true, false, not, ◌&&◌, List, [], ◌∷◌, length, Some, refl, sym, ap, subst, ◌∙◌, arith}
 use Rattle.std.specs.Prelude.{option_map, nat_lt}
-use Rattle.std.proofs.lemmas.Bool.Decides.{nat_tests}
 use Rattle.bk_level.specs.Levels.{dominates, level_at}
 use Rattle.bk_object.specs.Kinds.{is_directory}
 use Rattle.bk_object.specs.declared.facts.Facts.{Facts}
@@ -16,7 +15,7 @@ use Rattle.bk_image.specs.Parts.{last}
 use Rattle.bk_image.specs.Subjects.{is_listed}
 use Rattle.bk_image.specs.Objects.{objects_in, facts_at, has_cell, has_parent, dominates_above, fits_kind, fits_cell, fits_modes, fits_subjects, room, path_follows}
 use Rattle.bk_image.specs.Accepted.{IsAccepted}
-use Rattle.bk_image.proofs.SecureLists.{Stands, not_false, passes_both}
+use Rattle.bk_image.proofs.SecureLists.{Stands, not_false, passes_both, lt_of}
 use Rattle.bk_image.proofs.SecureFound.{found_facts, found_first, kept_passes}
 
 -- the checks of an object that passed, after those before it
@@ -106,6 +105,3 @@ levels_secure image accepted path facts is =
     let f = found_facts image.objects path facts is in
     let c = checked_at image accepted f.o f.stands in
     subst (λ (x : Facts). x.level < length image.levels) f.facts_are (lt_of f.o.facts.level (length image.levels) c.listed)
-  where
-    lt_of : (a b : ℕ) → nat_lt a b ≡ true → a < b
-    lt_of a b h = grind (arith, nat_tests, h)

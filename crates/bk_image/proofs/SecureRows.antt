@@ -1,7 +1,6 @@
 -- The rows of the state of an accepted image: modes of the kind, and only for subjects that are there.
 use Rattle.std.proofs.Common.{◌≡◌, ℕ, ◌+◌, ◌-◌, ◌/◌, ◌%◌, ◌<◌, ◌≤◌, Bool, true, false, not, ◌&&◌, ◌||◌, ◌==◌, List, length, map, drop, get_or, Some, refl, sym, ap, subst, ◌∙◌, ◌⊎◌, inl, inr, arith}
 use Rattle.std.proofs.lemmas.Bool.{cases_lt}
-use Rattle.std.proofs.lemmas.Bool.Decides.{nat_tests}
 use Rattle.std.proofs.lemmas.List.{get_or-drop, length-map}
 use Rattle.bk_object.specs.Modes.{Mode, Read, Execute, Write, Append, has, is_within, no_modes}
 use Rattle.bk_object.specs.Kinds.{kind_modes}
@@ -14,7 +13,7 @@ use Rattle.bk_state.specs.Start.{state_of, clearance_from}
 use Rattle.bk_state.specs.declared.image.Image.{Image}
 use Rattle.bk_image.specs.Objects.{objects_in, fits_modes, fits_subjects}
 use Rattle.bk_image.specs.Accepted.{IsAccepted}
-use Rattle.bk_image.proofs.SecureLists.{implied, all_at}
+use Rattle.bk_image.proofs.SecureLists.{implied, all_at, zero_of}
 use Rattle.bk_image.proofs.SecureFound.{found_facts}
 use Rattle.bk_image.proofs.SecureObjects.{checked_at}
 
@@ -41,9 +40,6 @@ within_has a b mode inside h = implied (has a mode) (has b mode) (by mode (four 
 has_none : (modes : Modes) (mode : Mode) → (modes.0 == 0) ≡ true → has modes mode ≡ false
 has_none modes mode none = by mode (zero_of modes.0 none)
   where
-    zero_of : (n : ℕ) → (n == 0) ≡ true → n ≡ 0
-    zero_of n h = grind (arith, nat_tests, h)
-
     by : (m : Mode) → modes.0 ≡ 0 → has modes m ≡ false
     by Read e = ap (λ n. n % 2 == 1) e
     by Execute e = ap (λ n. n / 2 % 2 == 1) e
