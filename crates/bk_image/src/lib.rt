@@ -22,9 +22,11 @@ mod row;
 mod schedule;
 mod subject;
 mod window;
+mod laws;
 
 pub use bk_state::{
     Hold, Holds, Image, ObjectRec, Objects, SubjectRec, Subjects, WindowRec, Windows,
 };
 pub use fault::{ImageFault, ImageField, ImageStop};
 pub use reading::read_image;
+pub use laws::law_no_prefix;
