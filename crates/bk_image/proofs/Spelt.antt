@@ -1,5 +1,5 @@
 -- What is read as a part is spelt by exactly the bytes that were taken.
-use Rattle.std.proofs.Common.{◌≡◌, ℕ, zero, suc, ◌+◌, ◌*◌, ◌<◌, ◌≤◌, Bool, true, false, List, [], ◌∷◌, ◌++◌, length, take, drop, Option, Some, None, Result, Ok, refl, sym, ap, subst, ◌∙◌, arith, ◌==◌, length-take, length-drop}
+use Rattle.std.proofs.Common.{◌≡◌, ℕ, zero, suc, ◌+◌, ◌*◌, ◌/◌, ◌%◌, ◌<◌, ◌≤◌, Bool, true, false, List, [], ◌∷◌, ◌++◌, length, take, drop, Option, Some, None, Result, Ok, refl, sym, ap, subst, ◌∙◌, arith, ◌==◌, length-take, length-drop}
 use Rattle.std.specs.Prelude.{◌^◌, not, ◌&&◌, ◌||◌, nat_lt, is_none, unwrap_or, flat_map, if◌then◌else◌}
 use Rattle.bk_space.specs.declared.Mode.TheVariants.{Supervisor, User}
 use Rattle.std.proofs.lemmas.Bool.Decides.{nat_tests}
@@ -8,7 +8,7 @@ use Rattle.bk_level.specs.Masks.{mask_of-categories_of}
 use Rattle.bk_path.specs.Paths.{Path, pack, unpack}
 use Rattle.bk_path.proofs.PathLemmas.{pack-unpack}
 use Rattle.bk_object.specs.Kinds.{kind_number}
-use Rattle.bk_object.specs.Pairs.{joined_pairs, split_pairs, pairs_of-sets_of}
+use Rattle.bk_object.specs.Pairs.{split_pairs}
 use Rattle.bk_state.specs.declared.image.Hold.{Hold}
 use Rattle.bk_state.specs.declared.image.ObjectRec.{ObjectRec}
 use Rattle.bk_state.specs.declared.image.SubjectRec.{SubjectRec}
@@ -21,7 +21,7 @@ use Rattle.bk_image.specs.Header.{byte_at, word_at}
 use Rattle.bk_image.specs.Subjects.{level_of, level_checks, level_at, schedule_checks, schedule_at, window_of, window_checks, window_at, is_mode, mode_of, subject_of, subject_fails, subject_at}
 use Rattle.bk_image.specs.Objects.{Objects, kind_of, blocks_of, object_of, object_fails, words_checks, object_at}
 use Rattle.bk_image.specs.Holds.{hold_of, hold_checks, hold_at}
-use Rattle.bk_image.specs.Spelling.{word_bytes, words_bytes, path_bytes, level_bytes, mode_number, window_bytes, subject_record, subject_bytes, blocks_byte, object_record, object_bytes, hold_bytes}
+use Rattle.bk_image.specs.Spelling.{word_bytes, words_bytes, path_bytes, level_bytes, mode_number, window_bytes, subject_record, subject_bytes, blocks_byte, row_bytes, object_record, object_bytes, hold_bytes}
 use Rattle.bk_image.proofs.Takes.{IsBytes, IsBytes-drop, IsBytes-take, bind_ok, ok_is, all_pass, Takes, Takes-then, part_takes, checked_ok, Spells, checked_spells, all_take, by_places, word_bytes-word, words_back}
 
 -- ---- numbers
@@ -144,8 +144,16 @@ kind_back (suc (suc zero)) line le = (refl, refl)
 kind_back (suc (suc (suc zero))) line le = (refl, refl)
 kind_back (suc (suc (suc (suc n)))) line le = absurd (grind (arith, nat_tests, le))
 
-row_back : (pairs : List ℕ) → length pairs ≡ 16 → joined_pairs (split_pairs pairs) ≡ pairs
-row_back pairs whole = ap (λ row. row.pairs) (pairs_of-sets_of (record { pairs = pairs }) (record { whole = whole }))
+low_half : (b : ℕ) → b % 16 + 16 * (b / 16) ≡ b
+low_half b = omega arith
+
+-- the bytes of a row are got back from its sets
+row_back : (pairs : List ℕ) → length pairs ≡ 16 → row_bytes (split_pairs pairs) ≡ pairs
+row_back pairs whole = subst (λ p. row_bytes (split_pairs p) ≡ p) (by_places pairs 16 whole) (λ i.
+    low_half (byte pairs 0) i ∷ low_half (byte pairs 1) i ∷ low_half (byte pairs 2) i ∷ low_half (byte pairs 3) i
+    ∷ low_half (byte pairs 4) i ∷ low_half (byte pairs 5) i ∷ low_half (byte pairs 6) i ∷ low_half (byte pairs 7) i
+    ∷ low_half (byte pairs 8) i ∷ low_half (byte pairs 9) i ∷ low_half (byte pairs 10) i ∷ low_half (byte pairs 11) i
+    ∷ low_half (byte pairs 12) i ∷ low_half (byte pairs 13) i ∷ low_half (byte pairs 14) i ∷ low_half (byte pairs 15) i ∷ [])
 
 -- the pieces of 28 bytes
 object_pieces : (b : List ℕ) → length b ≡ 28 →
