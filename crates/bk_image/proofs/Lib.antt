@@ -3,3 +3,4 @@ pub mod Spelt
 pub mod Steps
 pub mod SpeltImage
 pub mod Grown
+pub mod Only
