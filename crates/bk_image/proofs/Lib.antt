@@ -4,3 +4,4 @@ pub mod Steps
 pub mod SpeltImage
 pub mod Grown
 pub mod Only
+pub mod OnlyObjects

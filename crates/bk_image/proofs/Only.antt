@@ -100,16 +100,16 @@ Any x = Unit {0}
 pub word_back : (n : ℕ) → n % 256 + 256 * (n / 256) ≡ n
 word_back n = omega arith
 
-words_again : (words : List ℕ) → words_of (words_bytes words) ≡ words
+pub words_again : (words : List ℕ) → words_of (words_bytes words) ≡ words
 words_again [] = refl
 words_again (w ∷ words) = λ i. word_back w i ∷ words_again words i
 
-words_count : (words : List ℕ) → length (words_bytes words) ≡ 2 * length words
+pub words_count : (words : List ℕ) → length (words_bytes words) ≡ 2 * length words
 words_count [] = refl
 words_count (w ∷ words) = omega (arith, words_count words)
 
 -- a path is got back from its words
-path_again : (path : Path) → IsPath path → unwrap_or (unpack ((pack path).0 % 256 + 256 * ((pack path).0 / 256)) ((pack path).1 % 256 + 256 * ((pack path).1 / 256))) [] ≡ path
+pub path_again : (path : Path) → IsPath path → unwrap_or (unpack ((pack path).0 % 256 + 256 * ((pack path).0 / 256)) ((pack path).1 % 256 + 256 * ((pack path).1 / 256))) [] ≡ path
 path_again path is = (λ i. unwrap_or (unpack (word_back (pack path).0 i) (word_back (pack path).1 i)) []) ∙ ap (λ o. unwrap_or o []) (unpack-pack path is)
 
 pub byte_only : (f : ImageField) (low high : ℕ) → Rereads Any (λ x. x ∷ []) (byte_at f low high)
@@ -197,33 +197,3 @@ subject_only levels before x fit at more =
     subst (λ n. Only x more (each_of window_at n [] (from next (windows ++ more)) >>= g)) (sym again.windows)
     (only_then x.windows more (each_of window_at (length x.windows) [] (from next (windows ++ more))) g x more (all_only WindowFits window_bytes window_at window_only x.windows fit.windows next more) (λ end.
     only_done x (subject_of b x.windows) end more (sym again.value)))))
-
--- ---- objects
-
-kind_again : (kind : Kind) (blocks : ℕ) → blocks_fit kind blocks ≡ true →
-    (kind_of (kind_number kind) (blocks_byte kind blocks) ≡ kind) × (blocks_of (kind_of (kind_number kind) (blocks_byte kind blocks)) (blocks_byte kind blocks) ≡ blocks)
-kind_again Directory blocks fit = (refl, refl)
-kind_again Segment blocks fit = (refl, refl)
-kind_again Mailbox blocks fit = (refl, refl)
-kind_again (Line n) blocks fit = (refl, grind (arith, nat_tests, fit))
-
--- the sets of a row by their places
-abbrev sets_from : ℕ → ℕ → List Modes → List Modes
-sets_from k zero row = []
-sets_from k (suc n) row = in_row row k ∷ sets_from (suc k) n row
-
-sets_from-cons : (n k : ℕ) (modes : Modes) (row : List Modes) → sets_from (suc k) n (modes ∷ row) ≡ sets_from k n row
-sets_from-cons zero k modes row = refl
-sets_from-cons (suc n) k modes row = ap (λ (t : List Modes). in_row row k ∷ t) (sets_from-cons n (suc k) modes row)
-
-by_sets : (row : List Modes) (n : ℕ) → length row ≡ n → sets_from 0 n row ≡ row
-by_sets [] zero e = refl
-by_sets [] (suc n) e = absurd cc
-by_sets (modes ∷ row) zero e = absurd cc
-by_sets (modes ∷ row) (suc n) e = ap (λ (t : List Modes). modes ∷ t) (sets_from-cons n 0 modes row ∙ by_sets row n cc)
-
--- each of its sets is below 16
-four_at : (row : List Modes) (k : ℕ) → All (λ modes. modes.0 < 16) row → (in_row row k).0 < 16
-four_at [] k fit = omega arith
-four_at (modes ∷ row) zero fit = All-head (λ modes. modes.0 < 16) modes row fit
-four_at (modes ∷ row) (suc k) fit = four_at row k (All-tail (λ modes. modes.0 < 16) modes row fit)
