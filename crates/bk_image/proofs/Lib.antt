@@ -5,3 +5,4 @@ pub mod SpeltImage
 pub mod Grown
 pub mod Only
 pub mod OnlyObjects
+pub mod OnlyImage
