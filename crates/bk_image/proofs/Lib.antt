@@ -6,3 +6,4 @@ pub mod Grown
 pub mod Only
 pub mod OnlyObjects
 pub mod OnlyImage
+pub mod Written
