@@ -7,3 +7,4 @@ pub mod Only
 pub mod OnlyObjects
 pub mod OnlyImage
 pub mod Written
+pub mod PutLemmas

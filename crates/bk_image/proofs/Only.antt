@@ -134,13 +134,13 @@ level_only before x fit at more =
     (λ i. record { class = x.class; categories = (ap categories_of (word_back mask) ∙ fit) i })
 
 pub window_only : (before : List WindowRec) → Rereads WindowFits window_bytes (window_at before)
-unfolding window_at
+unfolding window_at path_bytes
 window_only before x fit at more =
     checked_only 5 (λ b. window_checks before (not (is_none (path_in b 1))) (window_of b)) window_of x at (window_bytes x) more refl
     (λ i. record { index = x.index; path = path_again x.path fit i })
 
 pub hold_only : (levels : List Level) (subjects : List SubjectRec) (objects : Objects) (before : List Hold) → Rereads HoldFits hold_bytes (hold_at levels subjects objects before)
-unfolding hold_at
+unfolding hold_at path_bytes
 hold_only levels subjects objects before x fit at more =
     checked_only 6 (λ b. hold_checks levels subjects objects before (not (is_none (path_in b 2))) (hold_of b)) hold_of x at (hold_bytes x) more refl
     (λ i. record { subject = x.subject; modes = x.modes; path = path_again x.path fit i })

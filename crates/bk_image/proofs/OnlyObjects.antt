@@ -14,7 +14,7 @@ use Rattle.bk_state.specs.declared.image.ObjectRec.{ObjectRec}
 use Rattle.bk_image.specs.Parts.{Rest, Reads, ◌>>=◌, first_failing, part, checked}
 use Rattle.bk_image.specs.Numbers.{word, words_of}
 use Rattle.bk_image.specs.Objects.{kind_of, blocks_of, object_of, object_fails, words_checks, object_at}
-use Rattle.bk_image.specs.Spelling.{word_bytes, words_bytes, blocks_byte, row_bytes, object_record, object_bytes}
+use Rattle.bk_image.specs.Spelling.{word_bytes, words_bytes, path_bytes, blocks_byte, kind_bytes, row_bytes, object_record, object_bytes}
 use Rattle.bk_image.specs.Writing.{blocks_fit, RowFits, ObjectFits}
 use Rattle.bk_image.proofs.Grown.{from}
 use Rattle.bk_image.proofs.Only.{Only, only_then, only_checked, only_done, part_only, checked_only, Rereads, word_back, words_again, words_count, path_again}
@@ -61,6 +61,7 @@ high_set low high four = λ i. record { 0 = is i }
 
 -- a row is got back from its bytes
 row_again : (row : List Modes) → RowFits row → split_pairs (row_bytes row) ≡ row
+unfolding row_bytes
 row_again row fit =
     (λ i. low 0 i ∷ high 0 i ∷ low 2 i ∷ high 2 i ∷ low 4 i ∷ high 4 i ∷ low 6 i ∷ high 6 i
     ∷ low 8 i ∷ high 8 i ∷ low 10 i ∷ high 10 i ∷ low 12 i ∷ high 12 i ∷ low 14 i ∷ high 14 i
@@ -80,6 +81,7 @@ pub record ObjectIsSpelt (o : ObjectRec) : Type 0 where
   pub blocks : blocks_fit o.facts.kind o.facts.blocks ≡ true
 
 object_again : (o : ObjectRec) → ObjectIsSpelt o → object_of (object_record o) o.words ≡ o
+unfolding path_bytes kind_bytes row_bytes
 object_again o is =
     let path = path_again o.path is.fits.path in
     let kind = kind_again o.facts.kind o.facts.blocks is.blocks in
@@ -88,7 +90,7 @@ object_again o is =
     λ i. record o { path = path i; facts = record o.facts { kind = kind.0 i; blocks = kind.1 i; quota = quota i; row = row i } }
 
 pub object_only : (levels : List Level) (subjects lines : ℕ) (before : List ObjectRec) → Rereads ObjectIsSpelt object_bytes (object_at levels subjects lines before)
-unfolding object_at
+unfolding object_at object_bytes path_bytes kind_bytes row_bytes
 object_only levels subjects lines before x fit at more =
     let b = object_record x in
     let c = words_bytes x.words in

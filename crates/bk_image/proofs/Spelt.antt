@@ -21,7 +21,7 @@ use Rattle.bk_image.specs.Header.{byte_at, word_at}
 use Rattle.bk_image.specs.Subjects.{level_of, level_checks, level_at, schedule_checks, schedule_at, window_of, window_checks, window_at, is_mode, mode_of, subject_of, subject_fails, subject_at}
 use Rattle.bk_image.specs.Objects.{Objects, kind_of, blocks_of, object_of, object_fails, words_checks, object_at}
 use Rattle.bk_image.specs.Holds.{hold_of, hold_checks, hold_at}
-use Rattle.bk_image.specs.Spelling.{word_bytes, words_bytes, path_bytes, level_bytes, mode_number, window_bytes, subject_record, subject_bytes, blocks_byte, row_bytes, object_record, object_bytes, hold_bytes}
+use Rattle.bk_image.specs.Spelling.{word_bytes, words_bytes, path_bytes, level_bytes, mode_number, window_bytes, subject_record, subject_bytes, blocks_byte, kind_bytes, row_bytes, object_record, object_bytes, hold_bytes}
 use Rattle.bk_image.proofs.Takes.{IsBytes, IsBytes-drop, IsBytes-take, bind_ok, ok_is, all_pass, Takes, Takes-then, part_takes, checked_ok, Spells, checked_spells, all_take, by_places, word_bytes-word, words_back}
 
 -- ---- numbers
@@ -50,6 +50,7 @@ not_not false h = refl
 -- the words of a path that was read
 path_back : (a b c d : ℕ) → a < 256 → b < 256 → c < 256 → d < 256 → is_none (unpack (a + 256 * b) (c + 256 * d)) ≡ false
     → path_bytes (unwrap_or (unpack (a + 256 * b) (c + 256 * d)) []) ≡ a ∷ b ∷ c ∷ d ∷ []
+unfolding path_bytes
 path_back a b c d la lb lc ld some = by (unpack (a + 256 * b) (c + 256 * d)) refl some
   where
     by : (o : Option Path) → unpack (a + 256 * b) (c + 256 * d) ≡ o → is_none o ≡ false → path_bytes (unwrap_or o []) ≡ a ∷ b ∷ c ∷ d ∷ []
@@ -149,6 +150,7 @@ low_half b = omega arith
 
 -- the bytes of a row are got back from its sets
 row_back : (pairs : List ℕ) → length pairs ≡ 16 → row_bytes (split_pairs pairs) ≡ pairs
+unfolding row_bytes
 row_back pairs whole = subst (λ p. row_bytes (split_pairs p) ≡ p) (by_places pairs 16 whole) (λ i.
     low_half (byte pairs 0) i ∷ low_half (byte pairs 1) i ∷ low_half (byte pairs 2) i ∷ low_half (byte pairs 3) i
     ∷ low_half (byte pairs 4) i ∷ low_half (byte pairs 5) i ∷ low_half (byte pairs 6) i ∷ low_half (byte pairs 7) i
@@ -164,6 +166,7 @@ object_pieces b count = subst pieces (by_places b 28 count) refl
     pieces c = (byte c 0 ∷ byte c 1 ∷ byte c 2 ∷ byte c 3 ∷ []) ++ (byte c 4 ∷ byte c 5 ∷ byte c 6 ∷ byte c 7 ∷ []) ++ (byte c 8 ∷ byte c 9 ∷ []) ++ take 16 (drop 10 c) ++ (byte c 26 ∷ byte c 27 ∷ []) ≡ c
 
 object_back : (levels : List Level) (subjects lines : ℕ) (before : List ObjectRec) (b words : List ℕ) → length b ≡ 28 → IsBytes b → Passes (object_fails levels subjects lines before b) → length words ≡ word b 26 → object_record (object_of b words) ≡ b
+unfolding kind_bytes
 object_back levels subjects lines before b words count fit passed words_are =
     let path = path_back (byte b 0) (byte b 1) (byte b 2) (byte b 3) (fit 0) (fit 1) (fit 2) (fit 3) (not_not (is_none (path_in b 0)) passed.0) in
     let kind = kind_back (byte b 4) (byte b 5) passed.1.1.1.0 in
@@ -174,7 +177,7 @@ object_back levels subjects lines before b words count fit passed words_are =
     (λ i. path i ++ (kind.0 i ∷ kind.1 i ∷ byte b 6 ∷ zero_byte i ∷ []) ++ quota i ++ row i ++ words i) ∙ object_pieces b count
 
 pub object_spells : (levels : List Level) (subjects lines : ℕ) (before : List ObjectRec) → Spells object_bytes (object_at levels subjects lines before)
-unfolding object_at
+unfolding object_at object_bytes
 object_spells levels subjects lines before rest x fits e =
     let a = bind_ok (checked 28 (object_fails levels subjects lines before) (λ b. b) rest) (λ b. part (2 * word b.0 26) b.1 >>= λ w. first_failing rest.at (words_checks (words_of w.0)) >>= λ passed. Ok (object_of b.0 (words_of w.0), w.1)) x e in
     let d = bind_ok (part (2 * word a.0.0 26) a.0.1) (λ w. first_failing rest.at (words_checks (words_of w.0)) >>= λ passed. Ok (object_of a.0.0 (words_of w.0), w.1)) x a.2 in

@@ -10,6 +10,7 @@
 
 mod fault;
 mod laws;
+mod put;
 
 pub use bk_state::{
     Hold, Holds, Image, ObjectRec, Objects, SubjectRec, Subjects, WindowRec, Windows,
