@@ -83,6 +83,7 @@ regroup : (a b c d e f m : List ℕ) → (a ++ b ++ c ++ d ++ e ++ f) ++ m ≡ a
 regroup a b c d e f m = simp append_assoc
 
 spelling_parts : (v : Image) (more : List ℕ) → spelling v ++ more ≡ header_bytes (header_of v) ++ (flat_map level_bytes v.levels ++ (flat_map (λ x. x ∷ []) v.schedule ++ (flat_map subject_bytes v.subjects ++ (flat_map object_bytes v.objects ++ (flat_map hold_bytes v.holds ++ more)))))
+unfolding spelling
 spelling_parts v more =
     regroup (header_bytes (header_of v)) (flat_map level_bytes v.levels) v.schedule (flat_map subject_bytes v.subjects) (flat_map object_bytes v.objects) (flat_map hold_bytes v.holds) more
     ∙ (λ i. header_bytes (header_of v) ++ (flat_map level_bytes v.levels ++ (sym (flat_map-single v.schedule) i ++ (flat_map subject_bytes v.subjects ++ (flat_map object_bytes v.objects ++ (flat_map hold_bytes v.holds ++ more))))))

@@ -104,7 +104,7 @@ flat_map-single [] = refl
 flat_map-single (x ∷ xs) = flat_map-cons (λ x. x ∷ []) x xs ∙ ap (λ (t : List ℕ). x ∷ t) (flat_map-single xs)
 
 image_ends : (rest : Rest) → Ends spelling rest [] rest (image_at rest)
-unfolding image_at
+unfolding image_at spelling
 image_ends rest =
     ends_then spelling rest [] rest header_bytes header_at step.image_from_header header_spells (λ h r.
     ends_each spelling rest (header_bytes h) r level_bytes level_at h.levels (step.image_from_levels h) level_spells (λ levels r levels_are.

@@ -96,7 +96,7 @@ header_of image = record {
   holds = length image.holds;
 }
 
-abbrev pub spelling : Image → List ℕ
+unfoldable pub spelling : Image → List ℕ
 spelling image =
     header_bytes (header_of image) ++ flat_map level_bytes image.levels ++ image.schedule ++ flat_map subject_bytes image.subjects
     ++ flat_map object_bytes image.objects ++ flat_map hold_bytes image.holds

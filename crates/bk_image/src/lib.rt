@@ -11,6 +11,7 @@
 mod fault;
 mod laws;
 mod put;
+mod writing;
 
 pub use bk_state::{
     Hold, Holds, Image, ObjectRec, Objects, SubjectRec, Subjects, WindowRec, Windows,
