@@ -1,37 +1,28 @@
 -- What is spelt is read as itself, if it is read.
-use Rattle.std.proofs.Common.{◌≡◌, ℕ, zero, suc, ◌+◌, ◌*◌, ◌/◌, ◌%◌, ◌<◌, Bool, true, false, List, [], ◌∷◌, ◌++◌, length, get_or, take, drop, Result, Ok, Err, refl, sym, ap, subst, ◌∙◌, append_assoc, arith, ◌==◌}
+use Rattle.std.proofs.Common.{◌≡◌, ℕ, ◌+◌, ◌*◌, ◌/◌, ◌%◌, List, [], ◌∷◌, ◌++◌, length, take, drop, Result, Ok, Err, refl, sym, ap, subst, ◌∙◌, append_assoc, arith, ◌==◌}
 use Rattle.std.specs.Prelude.{not, is_none, unwrap_or, flat_map, All}
-use Rattle.std.proofs.lemmas.List.{append-nil, length-append, take_at, drop_at}
+use Rattle.std.proofs.lemmas.List.{append-nil, take_at, drop_at}
 use Rattle.std.proofs.lemmas.List.Concat.{flat_map-cons}
 use Rattle.std.proofs.lemmas.List.Elements.{All-head, All-tail}
-use Rattle.std.proofs.lemmas.Bool.Decides.{nat_tests}
 use Rattle.bk_level.specs.Levels.{Level}
 use Rattle.bk_level.specs.Masks.{mask_of, categories_of}
 use Rattle.bk_path.specs.Paths.{Path, IsPath, pack, unpack}
 use Rattle.bk_path.proofs.PathLemmas.{unpack-pack}
-use Rattle.bk_object.specs.Kinds.{kind_number}
-use Rattle.bk_object.specs.Pairs.{split_pairs}
-use Rattle.bk_object.specs.Rows.{in_row}
-use Rattle.bk_object.specs.declared.modes.Modes.{Modes}
-use Rattle.bk_object.specs.declared.kind.Kind.{Kind}
-use Rattle.bk_object.specs.declared.kind.Kind.TheVariants.{Directory, Segment, Mailbox, Line}
 use Rattle.bk_space.specs.declared.Mode.{Mode}
 use Rattle.bk_space.specs.declared.Mode.TheVariants.{Supervisor, User}
 use Rattle.bk_state.specs.declared.image.Hold.{Hold}
-use Rattle.bk_state.specs.declared.image.ObjectRec.{ObjectRec}
 use Rattle.bk_state.specs.declared.image.SubjectRec.{SubjectRec}
 use Rattle.bk_state.specs.declared.image.WindowRec.{WindowRec}
 use Rattle.bk_image.specs.declared.fault.ImageFault.{ImageFault}
 use Rattle.bk_image.specs.declared.fault.ImageField.{ImageField}
-use Rattle.bk_image.specs.declared.fault.ImageField.TheVariants as field
 use Rattle.bk_image.specs.Parts.{Rest, Reads, Check, ◌>>=◌, first_failing, part, checked, each_of, is_outside}
-use Rattle.bk_image.specs.Numbers.{byte, word, words_of, path_in, path_at}
+use Rattle.bk_image.specs.Numbers.{byte, word, words_of, path_in}
 use Rattle.bk_image.specs.Header.{byte_at, word_at}
 use Rattle.bk_image.specs.Subjects.{level_of, level_checks, level_at, schedule_checks, schedule_at, window_of, window_checks, window_at, mode_of, subject_of, subject_fails, subject_at}
-use Rattle.bk_image.specs.Objects.{Objects, kind_of, blocks_of, object_of, object_fails, words_checks, object_at}
+use Rattle.bk_image.specs.Objects.{Objects}
 use Rattle.bk_image.specs.Holds.{hold_of, hold_checks, hold_at}
-use Rattle.bk_image.specs.Spelling.{word_bytes, words_bytes, path_bytes, level_bytes, mode_number, window_bytes, subject_record, subject_bytes, blocks_byte, row_bytes, object_record, object_bytes, hold_bytes}
-use Rattle.bk_image.specs.Writing.{blocks_fit, LevelFits, WindowFits, SubjectFits, RowFits, ObjectFits, HoldFits}
+use Rattle.bk_image.specs.Spelling.{word_bytes, words_bytes, path_bytes, level_bytes, mode_number, window_bytes, subject_record, subject_bytes, hold_bytes}
+use Rattle.bk_image.specs.Writing.{LevelFits, WindowFits, SubjectFits, HoldFits}
 use Rattle.bk_image.proofs.Takes.{bind_ok, ok_is, part_ok, bytes_from, by_places}
 use Rattle.bk_image.proofs.Grown.{from}
 

@@ -1,20 +1,18 @@
 -- What is spelt as an image is read as that image, if it is read.
-use Rattle.std.proofs.Common.{◌≡◌, ℕ, zero, suc, ◌+◌, ◌<◌, Bool, true, List, [], ◌∷◌, ◌++◌, length, Result, Ok, sym, ap, subst, ◌∙◌, append_assoc, arith}
-use Rattle.std.specs.Prelude.{◌&&◌, not, flat_map, All}
-use Rattle.std.specs.List.{list_all}
-use Rattle.std.proofs.lemmas.List.{append-nil, length-append}
-use Rattle.std.proofs.lemmas.List.Elements.{All-nil, All-cons, All-head, All-tail}
+use Rattle.std.proofs.Common.{◌≡◌, ℕ, List, [], ◌∷◌, ◌++◌, length, Ok, sym, ap, ◌∙◌, append_assoc, arith}
+use Rattle.std.specs.Prelude.{not, flat_map, All}
+use Rattle.std.proofs.lemmas.List.{length-append}
+use Rattle.std.proofs.lemmas.List.Elements.{All-nil, All-cons}
 use Rattle.bk_state.specs.declared.image.Image.{Image}
-use Rattle.bk_state.specs.declared.image.ObjectRec.{ObjectRec}
 use Rattle.bk_image.specs.declared.fault.ImageField.TheVariants as field
-use Rattle.bk_image.specs.Parts.{Rest, Reads, ◌>>=◌, each_of}
-use Rattle.bk_image.specs.Header.{Header, is_magic, magic_at, byte_at, word_at, header_at}
+use Rattle.bk_image.specs.Parts.{Reads, each_of}
+use Rattle.bk_image.specs.Header.{is_magic, magic_at, byte_at, word_at, header_at}
 use Rattle.bk_image.specs.Subjects.{level_at, schedule_at, subject_at}
 use Rattle.bk_image.specs.Objects.{objects_in, object_at, after_objects}
 use Rattle.bk_image.specs.Holds.{hold_at}
 use Rattle.bk_image.specs.Image.{image_at, image_of}
 use Rattle.bk_image.specs.Spelling.{word_bytes, header_bytes, header_of, level_bytes, subject_bytes, object_bytes, hold_bytes, spelling}
-use Rattle.bk_image.specs.Writing.{LevelFits, SubjectFits, ObjectFits, HoldFits, Fits, blocks_fit, object_fits, windows_fit, counts_fit}
+use Rattle.bk_image.specs.Writing.{LevelFits, SubjectFits, HoldFits}
 use Rattle.bk_image.proofs.Takes.{bind_ok, ok_is}
 use Rattle.bk_image.proofs.SpeltImage.{flat_map-single}
 use Rattle.bk_image.proofs.Grown.{from, image_at_stays}

@@ -1,5 +1,5 @@
 -- What is spelt as an object is read as that object, if it is read.
-use Rattle.std.proofs.Common.{◌≡◌, ℕ, zero, suc, ◌+◌, ◌*◌, ◌/◌, ◌%◌, ◌<◌, Bool, true, false, List, [], ◌∷◌, ◌++◌, length, take, drop, Ok, refl, sym, ap, subst, ◌∙◌, append_assoc, arith, ◌==◌}
+use Rattle.std.proofs.Common.{◌≡◌, ℕ, zero, suc, ◌+◌, ◌*◌, ◌/◌, ◌%◌, ◌<◌, true, List, [], ◌∷◌, ◌++◌, length, Ok, refl, sym, ap, subst, ◌∙◌, append_assoc, arith}
 use Rattle.std.specs.Prelude.{All}
 use Rattle.std.proofs.lemmas.Bool.Decides.{nat_tests}
 use Rattle.std.proofs.lemmas.List.Elements.{All-head, All-tail}
@@ -14,7 +14,7 @@ use Rattle.bk_state.specs.declared.image.ObjectRec.{ObjectRec}
 use Rattle.bk_image.specs.Parts.{Rest, Reads, ◌>>=◌, first_failing, part, checked}
 use Rattle.bk_image.specs.Numbers.{word, words_of}
 use Rattle.bk_image.specs.Objects.{kind_of, blocks_of, object_of, object_fails, words_checks, object_at}
-use Rattle.bk_image.specs.Spelling.{word_bytes, words_bytes, path_bytes, blocks_byte, kind_bytes, row_bytes, object_record, object_bytes}
+use Rattle.bk_image.specs.Spelling.{words_bytes, path_bytes, blocks_byte, kind_bytes, row_bytes, object_record, object_bytes}
 use Rattle.bk_image.specs.Writing.{blocks_fit, RowFits, ObjectFits}
 use Rattle.bk_image.proofs.Grown.{from}
 use Rattle.bk_image.proofs.Only.{Only, only_then, only_checked, only_done, part_only, checked_only, Rereads, word_back, words_again, words_count, path_again}

@@ -1,12 +1,11 @@
 -- Lists that grow by one part.
-use Rattle.std.proofs.Common.{◌≡◌, ℕ, ◌+◌, ◌<◌, ◌*◌, List, [], ◌∷◌, ◌++◌, take, Some, sym, ap, ◌∙◌}
+use Rattle.std.proofs.Common.{◌≡◌, ℕ, ◌+◌, List, [], ◌∷◌, ◌++◌, take, Some, sym, ap, ◌∙◌}
 use Rattle.std.specs.Prelude.{flat_map, slice_get}
 use Rattle.std.proofs.lemmas.Grind.{flat_map-append}
 use Rattle.std.proofs.lemmas.List.{append-nil, take_more}
 use Rattle.std.proofs.lemmas.List.Concat.{flat_map-cons}
 use Rattle.std.proofs.lemmas.Option.{slice_get_within, get_or_from_slice_get}
-use Rattle.bk_level.specs.Levels as model
-use Rattle.bk_level.specs.Masks.{level_of, FitsFields, mask_of, mask_of-categories_of}
+use Rattle.bk_level.specs.Masks.{level_of, FitsFields, mask_of-categories_of}
 use Rattle.bk_level.specs.declared.level.Level.TheInside.{Inside}
 use Rattle.bk_image.specs.Spelling.{word_bytes, level_bytes}
 

@@ -1,11 +1,11 @@
 -- What is read as a part is spelt by exactly the bytes that were taken.
-use Rattle.std.proofs.Common.{◌≡◌, ℕ, zero, suc, ◌+◌, ◌*◌, ◌/◌, ◌%◌, ◌<◌, ◌≤◌, Bool, true, false, List, [], ◌∷◌, ◌++◌, length, take, drop, Option, Some, None, Result, Ok, refl, sym, ap, subst, ◌∙◌, arith, ◌==◌, length-take, length-drop}
+use Rattle.std.proofs.Common.{◌≡◌, ℕ, zero, suc, ◌+◌, ◌*◌, ◌/◌, ◌%◌, ◌<◌, ◌≤◌, Bool, true, false, List, [], ◌∷◌, ◌++◌, length, take, drop, Option, Some, None, Ok, refl, sym, ap, subst, ◌∙◌, arith, ◌==◌, length-take, length-drop}
 use Rattle.std.specs.Prelude.{◌^◌, not, ◌&&◌, ◌||◌, nat_lt, is_none, unwrap_or, flat_map, if◌then◌else◌}
 use Rattle.bk_space.specs.declared.Mode.TheVariants.{Supervisor, User}
 use Rattle.std.proofs.lemmas.Bool.Decides.{nat_tests}
 use Rattle.bk_level.specs.Levels.{Level}
 use Rattle.bk_level.specs.Masks.{mask_of-categories_of}
-use Rattle.bk_path.specs.Paths.{Path, pack, unpack}
+use Rattle.bk_path.specs.Paths.{Path, unpack}
 use Rattle.bk_path.proofs.PathLemmas.{pack-unpack}
 use Rattle.bk_object.specs.Kinds.{kind_number}
 use Rattle.bk_object.specs.Pairs.{split_pairs}
@@ -14,15 +14,14 @@ use Rattle.bk_state.specs.declared.image.ObjectRec.{ObjectRec}
 use Rattle.bk_state.specs.declared.image.SubjectRec.{SubjectRec}
 use Rattle.bk_state.specs.declared.image.WindowRec.{WindowRec}
 use Rattle.bk_image.specs.declared.fault.ImageField.{ImageField}
-use Rattle.bk_image.specs.declared.fault.ImageField.TheVariants as field
-use Rattle.bk_image.specs.Parts.{Rest, Passes, ◌>>=◌, first_failing, part, checked, each_of, is_outside}
-use Rattle.bk_image.specs.Numbers.{byte, word, words_of, path_in, path_at}
+use Rattle.bk_image.specs.Parts.{Passes, ◌>>=◌, first_failing, part, checked, each_of, is_outside}
+use Rattle.bk_image.specs.Numbers.{byte, word, words_of, path_in}
 use Rattle.bk_image.specs.Header.{byte_at, word_at}
 use Rattle.bk_image.specs.Subjects.{level_of, level_checks, level_at, schedule_checks, schedule_at, window_of, window_checks, window_at, is_mode, mode_of, subject_of, subject_fails, subject_at}
 use Rattle.bk_image.specs.Objects.{Objects, kind_of, blocks_of, object_of, object_fails, words_checks, object_at}
 use Rattle.bk_image.specs.Holds.{hold_of, hold_checks, hold_at}
-use Rattle.bk_image.specs.Spelling.{word_bytes, words_bytes, path_bytes, level_bytes, mode_number, window_bytes, subject_record, subject_bytes, blocks_byte, kind_bytes, row_bytes, object_record, object_bytes, hold_bytes}
-use Rattle.bk_image.proofs.Takes.{IsBytes, IsBytes-drop, IsBytes-take, bind_ok, ok_is, all_pass, Takes, Takes-then, part_takes, checked_ok, Spells, checked_spells, all_take, by_places, word_bytes-word, words_back}
+use Rattle.bk_image.specs.Spelling.{word_bytes, path_bytes, level_bytes, mode_number, window_bytes, subject_record, subject_bytes, blocks_byte, kind_bytes, row_bytes, object_record, object_bytes, hold_bytes}
+use Rattle.bk_image.proofs.Takes.{IsBytes, IsBytes-drop, IsBytes-take, bind_ok, ok_is, Takes-then, Takes-value, part_takes, checked_ok, Spells, checked_spells, all_take, by_places, word_bytes-word, words_back}
 
 -- ---- numbers
 
@@ -134,7 +133,7 @@ subject_spells levels before rest x fits e =
     let front : subject_record (subject_of a.0.0 w.0.0) ≡ c.bytes = ap (λ b. subject_record (subject_of b w.0.0)) (sym same) ∙ subject_back levels c.bytes w.0.0 c.count c.fit c.passed windows in
     let both = Takes-then rest c.bytes a.0.1 (flat_map window_bytes w.0.0) w.0.1 c.takes t.1 in
     let text : subject_bytes (subject_of a.0.0 w.0.0) ≡ c.bytes ++ flat_map window_bytes w.0.0 = ap (λ (f : List ℕ). f ++ flat_map window_bytes w.0.0) front in
-    subst (λ (y : SubjectRec × Rest). Takes rest (subject_bytes y.0) y.1) q (subst (λ (s : List ℕ). Takes rest s w.0.1) (sym text) both)
+    Takes-value subject_bytes rest (c.bytes ++ flat_map window_bytes w.0.0) (subject_of a.0.0 w.0.0, w.0.1) x q text both
 
 -- ---- objects
 
@@ -191,4 +190,4 @@ object_spells levels subjects lines before rest x fits e =
     let front : object_record (object_of a.0.0 (words_of d.0.0)) ≡ c.bytes = ap (λ b. object_record (object_of b (words_of d.0.0))) (sym same) ∙ object_back levels subjects lines before c.bytes (words_of d.0.0) c.count c.fit c.passed words_are in
     let both = Takes-then rest c.bytes a.0.1 d.0.0 d.0.1 c.takes t.0 in
     let text : object_bytes (object_of a.0.0 (words_of d.0.0)) ≡ c.bytes ++ d.0.0 = λ i. front i ++ words.0 i in
-    subst (λ (y : ObjectRec × Rest). Takes rest (object_bytes y.0) y.1) q (subst (λ (s : List ℕ). Takes rest s d.0.1) (sym text) both)
+    Takes-value object_bytes rest (c.bytes ++ d.0.0) (object_of a.0.0 (words_of d.0.0), d.0.1) x q text both

@@ -12,7 +12,7 @@ use Rattle.bk_image.specs.declared.fault.ImageStop.{ImageStop}
 use Rattle.bk_image.specs.Parts.{◌>>=◌, Gives}
 use Rattle.bk_image.specs.Image.{image_of}
 use Rattle.bk_image.specs.Spelling.{spelling}
-use Rattle.bk_image.specs.Writing.{ObjectFits, Fits, windows_fit, blocks_fit, object_fits, counts_fit, written}
+use Rattle.bk_image.specs.Writing.{ObjectFits, Fits, blocks_fit, object_fits, counts_fit, written}
 use Rattle.bk_image.proofs.Takes.{bind_ok, ok_is}
 use Rattle.bk_image.proofs.Grown.{image_grows}
 use Rattle.bk_image.proofs.OnlyObjects.{ObjectIsSpelt}
