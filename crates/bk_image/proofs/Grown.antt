@@ -1,5 +1,5 @@
 -- What was read is read again from the bytes that it took, whatever follows them.
-use Rattle.std.proofs.Common.{◌≡◌, ℕ, zero, suc, ◌+◌, ◌*◌, ◌≤◌, Bool, false, ltb, List, [], ◌∷◌, ◌++◌, length, take, drop, Result, Ok, Err, sym, ap, subst, ◌∙◌, append_assoc, arith, ◌==◌}
+use Rattle.std.proofs.Common.{◌≡◌, ℕ, zero, suc, ◌+◌, ◌*◌, ◌≤◌, false, ltb, List, [], ◌∷◌, ◌++◌, length, take, drop, Result, Ok, Err, sym, ap, subst, ◌∙◌, append_assoc, arith, ◌==◌}
 use Rattle.std.specs.Prelude.{not, is_none}
 use Rattle.std.proofs.lemmas.Bool.{le-ltb}
 use Rattle.std.proofs.lemmas.List.{append-nil, length-append, length-take, take_at, drop_at, take-append-drop, nil_from_length}
@@ -14,7 +14,7 @@ use Rattle.bk_image.specs.declared.fault.ImageField.{ImageField}
 use Rattle.bk_image.specs.declared.fault.ImageField.TheVariants as field
 use Rattle.bk_image.specs.Parts.{Rest, Reads, Check, ◌>>=◌, first_failing, limit, part, checked, each_of, is_outside}
 use Rattle.bk_image.specs.Numbers.{byte, word, words_of, path_in}
-use Rattle.bk_image.specs.Header.{Header, is_magic, magic_at, byte_at, word_at, header_at}
+use Rattle.bk_image.specs.Header.{is_magic, magic_at, byte_at, word_at, header_at}
 use Rattle.bk_image.specs.Subjects.{level_of, level_checks, level_at, schedule_checks, schedule_at, window_of, window_checks, window_at, subject_of, subject_fails, subject_at}
 use Rattle.bk_image.specs.Objects.{Objects, objects_in, object_of, object_fails, words_checks, object_at, after_objects}
 use Rattle.bk_image.specs.Holds.{hold_of, hold_checks, hold_at}
@@ -161,18 +161,21 @@ image_at_stays at =
     (frames_then at (λ bytes. each_of (hold_at l s (objects_in o)) h.holds [] (from at bytes)) (step.image_from_holds h l c s o) (each_stays (hold_at l s (objects_in o)) (hold_stays l s (objects_in o)) h.holds [] at) (λ d at.
     frames_done at (step.made h.turns h.lines l c s o d))))))))
 
+grown_from : (bytes more : List ℕ) (image : Image) (n : ℕ) (x : Image × Rest) → Framed 0 (λ b. image_at (from 0 b)) bytes x → (x.0 ≡ image) × (x.1.at ≡ n) → image_of (take n bytes ++ more) ≡ Ok (image, n)
+unfolding image_of
+grown_from bytes more image n x f is =
+    let count : length f.front ≡ n = omega (arith, f.place, is.1) in
+    let front : take n bytes ≡ f.front = ap (take n) f.parts ∙ take_at f.front x.1.bytes n count in
+    let again : image_at (from 0 (take n bytes ++ more)) ≡ Ok (x.0, from x.1.at more) = ap (λ (t : List ℕ). image_at (from 0 (t ++ more))) front ∙ f.again more in
+    ap (λ (r : Reads Image). r >>= λ i. Ok (i.0, i.1.at)) again ∙ (λ i. Ok (is.0 i, is.1 i))
+
 -- an image is read again from the bytes that it took, whatever follows them
 pub image_grows : (bytes : List ℕ) (image : Image) (n : ℕ) → image_of bytes ≡ Ok (image, n) → (more : List ℕ) → image_of (take n bytes ++ more) ≡ Ok (image, n)
 unfolding image_of
 image_grows bytes image n e more =
     let a = bind_ok (image_at (from 0 bytes)) (λ i. Ok (i.0, i.1.at)) (image, n) e in
-    let f = image_at_stays 0 bytes a.0 a.1 in
     let is = ok_is (a.0.0, a.0.1.at) (image, n) a.2 in
-    let count : n ≡ length f.front = (λ i. (sym is i).1) ∙ omega (arith, f.place) in
-    let front : take n bytes ≡ f.front = ap (take n) f.parts ∙ take_at f.front a.0.1.bytes n (sym count) in
-    ap (λ (t : List ℕ). image_at (from 0 (t ++ more)) >>= λ i. Ok (i.0, i.1.at)) front
-    ∙ ap (λ (r : Reads Image). r >>= λ i. Ok (i.0, i.1.at)) (f.again more)
-    ∙ a.2
+    grown_from bytes more image n a.0 (image_at_stays 0 bytes a.0 a.1) (λ i. (is i).0, λ i. (is i).1)
 
 same_parts : (x y : Image × ℕ) → (let r : Result (Image × ℕ) ImageFault = Ok x in r) ≡ Ok y → x ≡ y
 same_parts x y e = cc

@@ -20,3 +20,8 @@ pub mod Secure
 pub mod PassedParts
 pub mod PassedKinds
 pub mod Passed
+pub mod Only
+pub mod OnlyObjects
+pub mod OnlyImage
+pub mod Written
+pub mod PutLemmas

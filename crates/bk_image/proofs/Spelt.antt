@@ -1,28 +1,27 @@
 -- What is read as a part is spelt by exactly the bytes that were taken.
-use Rattle.std.proofs.Common.{◌≡◌, ℕ, zero, suc, ◌+◌, ◌*◌, ◌<◌, ◌≤◌, Bool, true, false, List, [], ◌∷◌, ◌++◌, length, take, drop, Option, Some, None, Result, Ok, refl, sym, ap, subst, ◌∙◌, arith, ◌==◌, length-take, length-drop}
+use Rattle.std.proofs.Common.{◌≡◌, ℕ, zero, suc, ◌+◌, ◌*◌, ◌/◌, ◌%◌, ◌<◌, ◌≤◌, Bool, true, false, List, [], ◌∷◌, ◌++◌, length, take, drop, Option, Some, None, Ok, refl, sym, ap, subst, ◌∙◌, arith, ◌==◌, length-take, length-drop}
 use Rattle.std.specs.Prelude.{◌^◌, not, ◌&&◌, ◌||◌, nat_lt, is_none, unwrap_or, flat_map, if◌then◌else◌}
 use Rattle.bk_space.specs.declared.Mode.TheVariants.{Supervisor, User}
 use Rattle.std.proofs.lemmas.Bool.Decides.{nat_tests}
 use Rattle.bk_level.specs.Levels.{Level}
 use Rattle.bk_level.specs.Masks.{mask_of-categories_of}
-use Rattle.bk_path.specs.Paths.{Path, pack, unpack}
+use Rattle.bk_path.specs.Paths.{Path, unpack}
 use Rattle.bk_path.proofs.PathLemmas.{pack-unpack}
 use Rattle.bk_object.specs.Kinds.{kind_number}
-use Rattle.bk_object.specs.Pairs.{joined_pairs, split_pairs, pairs_of-sets_of}
+use Rattle.bk_object.specs.Pairs.{split_pairs}
 use Rattle.bk_state.specs.declared.image.Hold.{Hold}
 use Rattle.bk_state.specs.declared.image.ObjectRec.{ObjectRec}
 use Rattle.bk_state.specs.declared.image.SubjectRec.{SubjectRec}
 use Rattle.bk_state.specs.declared.image.WindowRec.{WindowRec}
 use Rattle.bk_image.specs.declared.fault.ImageField.{ImageField}
-use Rattle.bk_image.specs.declared.fault.ImageField.TheVariants as field
-use Rattle.bk_image.specs.Parts.{Rest, Passes, ◌>>=◌, first_failing, part, checked, each_of, is_outside}
-use Rattle.bk_image.specs.Numbers.{byte, word, words_of, path_in, path_at}
+use Rattle.bk_image.specs.Parts.{Passes, ◌>>=◌, first_failing, part, checked, each_of, is_outside}
+use Rattle.bk_image.specs.Numbers.{byte, word, words_of, path_in}
 use Rattle.bk_image.specs.Header.{byte_at, word_at}
 use Rattle.bk_image.specs.Subjects.{level_of, level_checks, level_at, schedule_checks, schedule_at, window_of, window_checks, window_at, is_mode, mode_of, subject_of, subject_fails, subject_at}
 use Rattle.bk_image.specs.Objects.{Objects, kind_of, blocks_of, object_of, object_fails, words_checks, object_at}
 use Rattle.bk_image.specs.Holds.{hold_of, hold_checks, hold_at}
-use Rattle.bk_image.specs.Spelling.{word_bytes, words_bytes, path_bytes, level_bytes, mode_number, window_bytes, subject_record, subject_bytes, blocks_byte, object_record, object_bytes, hold_bytes}
-use Rattle.bk_image.proofs.Takes.{IsBytes, IsBytes-drop, IsBytes-take, bind_ok, ok_is, all_pass, Takes, Takes-then, part_takes, checked_ok, Spells, checked_spells, all_take, by_places, word_bytes-word, words_back}
+use Rattle.bk_image.specs.Spelling.{word_bytes, path_bytes, level_bytes, mode_number, window_bytes, subject_record, subject_bytes, blocks_byte, kind_bytes, row_bytes, object_record, object_bytes, hold_bytes}
+use Rattle.bk_image.proofs.Takes.{IsBytes, IsBytes-drop, IsBytes-take, bind_ok, ok_is, Takes-then, Takes-value, part_takes, checked_ok, Spells, checked_spells, all_take, by_places, word_bytes-word, words_back}
 
 -- ---- numbers
 
@@ -50,6 +49,7 @@ not_not false h = refl
 -- the words of a path that was read
 path_back : (a b c d : ℕ) → a < 256 → b < 256 → c < 256 → d < 256 → is_none (unpack (a + 256 * b) (c + 256 * d)) ≡ false
     → path_bytes (unwrap_or (unpack (a + 256 * b) (c + 256 * d)) []) ≡ a ∷ b ∷ c ∷ d ∷ []
+unfolding path_bytes
 path_back a b c d la lb lc ld some = by (unpack (a + 256 * b) (c + 256 * d)) refl some
   where
     by : (o : Option Path) → unpack (a + 256 * b) (c + 256 * d) ≡ o → is_none o ≡ false → path_bytes (unwrap_or o []) ≡ a ∷ b ∷ c ∷ d ∷ []
@@ -133,7 +133,7 @@ subject_spells levels before rest x fits e =
     let front : subject_record (subject_of a.0.0 w.0.0) ≡ c.bytes = ap (λ b. subject_record (subject_of b w.0.0)) (sym same) ∙ subject_back levels c.bytes w.0.0 c.count c.fit c.passed windows in
     let both = Takes-then rest c.bytes a.0.1 (flat_map window_bytes w.0.0) w.0.1 c.takes t.1 in
     let text : subject_bytes (subject_of a.0.0 w.0.0) ≡ c.bytes ++ flat_map window_bytes w.0.0 = ap (λ (f : List ℕ). f ++ flat_map window_bytes w.0.0) front in
-    subst (λ (y : SubjectRec × Rest). Takes rest (subject_bytes y.0) y.1) q (subst (λ (s : List ℕ). Takes rest s w.0.1) (sym text) both)
+    Takes-value subject_bytes rest (c.bytes ++ flat_map window_bytes w.0.0) (subject_of a.0.0 w.0.0, w.0.1) x q text both
 
 -- ---- objects
 
@@ -144,8 +144,17 @@ kind_back (suc (suc zero)) line le = (refl, refl)
 kind_back (suc (suc (suc zero))) line le = (refl, refl)
 kind_back (suc (suc (suc (suc n)))) line le = absurd (grind (arith, nat_tests, le))
 
-row_back : (pairs : List ℕ) → length pairs ≡ 16 → joined_pairs (split_pairs pairs) ≡ pairs
-row_back pairs whole = ap (λ row. row.pairs) (pairs_of-sets_of (record { pairs = pairs }) (record { whole = whole }))
+low_half : (b : ℕ) → b % 16 + 16 * (b / 16) ≡ b
+low_half b = omega arith
+
+-- the bytes of a row are got back from its sets
+row_back : (pairs : List ℕ) → length pairs ≡ 16 → row_bytes (split_pairs pairs) ≡ pairs
+unfolding row_bytes
+row_back pairs whole = subst (λ p. row_bytes (split_pairs p) ≡ p) (by_places pairs 16 whole) (λ i.
+    low_half (byte pairs 0) i ∷ low_half (byte pairs 1) i ∷ low_half (byte pairs 2) i ∷ low_half (byte pairs 3) i
+    ∷ low_half (byte pairs 4) i ∷ low_half (byte pairs 5) i ∷ low_half (byte pairs 6) i ∷ low_half (byte pairs 7) i
+    ∷ low_half (byte pairs 8) i ∷ low_half (byte pairs 9) i ∷ low_half (byte pairs 10) i ∷ low_half (byte pairs 11) i
+    ∷ low_half (byte pairs 12) i ∷ low_half (byte pairs 13) i ∷ low_half (byte pairs 14) i ∷ low_half (byte pairs 15) i ∷ [])
 
 -- the pieces of 28 bytes
 object_pieces : (b : List ℕ) → length b ≡ 28 →
@@ -156,6 +165,7 @@ object_pieces b count = subst pieces (by_places b 28 count) refl
     pieces c = (byte c 0 ∷ byte c 1 ∷ byte c 2 ∷ byte c 3 ∷ []) ++ (byte c 4 ∷ byte c 5 ∷ byte c 6 ∷ byte c 7 ∷ []) ++ (byte c 8 ∷ byte c 9 ∷ []) ++ take 16 (drop 10 c) ++ (byte c 26 ∷ byte c 27 ∷ []) ≡ c
 
 object_back : (levels : List Level) (subjects lines : ℕ) (before : List ObjectRec) (b words : List ℕ) → length b ≡ 28 → IsBytes b → Passes (object_fails levels subjects lines before b) → length words ≡ word b 26 → object_record (object_of b words) ≡ b
+unfolding kind_bytes
 object_back levels subjects lines before b words count fit passed words_are =
     let path = path_back (byte b 0) (byte b 1) (byte b 2) (byte b 3) (fit 0) (fit 1) (fit 2) (fit 3) (not_not (is_none (path_in b 0)) passed.0) in
     let kind = kind_back (byte b 4) (byte b 5) passed.1.1.1.0 in
@@ -166,7 +176,7 @@ object_back levels subjects lines before b words count fit passed words_are =
     (λ i. path i ++ (kind.0 i ∷ kind.1 i ∷ byte b 6 ∷ zero_byte i ∷ []) ++ quota i ++ row i ++ words i) ∙ object_pieces b count
 
 pub object_spells : (levels : List Level) (subjects lines : ℕ) (before : List ObjectRec) → Spells object_bytes (object_at levels subjects lines before)
-unfolding object_at
+unfolding object_at object_bytes
 object_spells levels subjects lines before rest x fits e =
     let a = bind_ok (checked 28 (object_fails levels subjects lines before) (λ b. b) rest) (λ b. part (2 * word b.0 26) b.1 >>= λ w. first_failing rest.at (words_checks (words_of w.0)) >>= λ passed. Ok (object_of b.0 (words_of w.0), w.1)) x e in
     let d = bind_ok (part (2 * word a.0.0 26) a.0.1) (λ w. first_failing rest.at (words_checks (words_of w.0)) >>= λ passed. Ok (object_of a.0.0 (words_of w.0), w.1)) x a.2 in
@@ -180,4 +190,4 @@ object_spells levels subjects lines before rest x fits e =
     let front : object_record (object_of a.0.0 (words_of d.0.0)) ≡ c.bytes = ap (λ b. object_record (object_of b (words_of d.0.0))) (sym same) ∙ object_back levels subjects lines before c.bytes (words_of d.0.0) c.count c.fit c.passed words_are in
     let both = Takes-then rest c.bytes a.0.1 d.0.0 d.0.1 c.takes t.0 in
     let text : object_bytes (object_of a.0.0 (words_of d.0.0)) ≡ c.bytes ++ d.0.0 = λ i. front i ++ words.0 i in
-    subst (λ (y : ObjectRec × Rest). Takes rest (object_bytes y.0) y.1) q (subst (λ (s : List ℕ). Takes rest s d.0.1) (sym text) both)
+    Takes-value object_bytes rest (c.bytes ++ d.0.0) (object_of a.0.0 (words_of d.0.0), d.0.1) x q text both

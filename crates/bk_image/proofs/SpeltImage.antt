@@ -1,17 +1,16 @@
 -- What is read as an image is spelt by exactly the bytes that were taken.
-use Rattle.std.proofs.Common.{◌≡◌, ℕ, ◌≤◌, Bool, false, List, [], ◌∷◌, ◌++◌, length, take, Result, Ok, Err, refl, sym, ap, subst, ◌∙◌, arith, ◌==◌}
+use Rattle.std.proofs.Common.{◌≡◌, ℕ, false, List, [], ◌∷◌, ◌++◌, length, take, Result, Ok, Err, refl, sym, ap, subst, ◌∙◌, arith, ◌==◌}
 use Rattle.std.specs.Prelude.{IfOk, not, ◌&&◌, flat_map}
 use Rattle.std.proofs.lemmas.Bool.Decides.{nat_tests}
 use Rattle.std.proofs.lemmas.List.{take_at}
 use Rattle.std.proofs.lemmas.List.Concat.{flat_map-cons}
 use Rattle.bk_state.specs.declared.image.Image.{Image}
 use Rattle.bk_image.specs.declared.fault.ImageFault.{ImageFault}
-use Rattle.bk_image.specs.declared.fault.ImageField.{ImageField}
 use Rattle.bk_image.specs.declared.fault.ImageField.TheVariants as field
 use Rattle.bk_image.specs.declared.fault.ImageStop.{ImageStop}
 use Rattle.bk_image.specs.Parts.{Rest, Reads, ◌>>=◌, Gives, each_of, is_outside}
 use Rattle.bk_image.specs.Numbers.{byte, word}
-use Rattle.bk_image.specs.Header.{Header, is_magic, magic_at, byte_at, word_at, header_at}
+use Rattle.bk_image.specs.Header.{is_magic, magic_at, byte_at, word_at, header_at}
 use Rattle.bk_image.specs.Subjects.{level_at, schedule_at, subject_at}
 use Rattle.bk_image.specs.Objects.{objects_in, object_at, after_objects}
 use Rattle.bk_image.specs.Holds.{hold_at}
@@ -104,7 +103,7 @@ flat_map-single [] = refl
 flat_map-single (x ∷ xs) = flat_map-cons (λ x. x ∷ []) x xs ∙ ap (λ (t : List ℕ). x ∷ t) (flat_map-single xs)
 
 image_ends : (rest : Rest) → Ends spelling rest [] rest (image_at rest)
-unfolding image_at
+unfolding image_at spelling
 image_ends rest =
     ends_then spelling rest [] rest header_bytes header_at step.image_from_header header_spells (λ h r.
     ends_each spelling rest (header_bytes h) r level_bytes level_at h.levels (step.image_from_levels h) level_spells (λ levels r levels_are.

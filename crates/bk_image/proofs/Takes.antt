@@ -66,6 +66,10 @@ Takes-then a x b y c p q = record {
   fits = q.fits;
 }
 
+-- what was taken spells the value that was read
+pub Takes-value : {X : Type 0} (text : X → List ℕ) (rest : Rest) (bytes : List ℕ) (y x : X × Rest) → y ≡ x → text y.0 ≡ bytes → Takes rest bytes y.1 → Takes rest (text x.0) x.1
+Takes-value text rest bytes y x same spelt taken = subst (λ z. Takes rest (text z.0) z.1) same (subst (λ b. Takes rest b y.1) (sym spelt) taken)
+
 abbrev pub after : ℕ → Rest → Rest
 after n rest = record { at = rest.at + n; bytes = drop n rest.bytes }
 

@@ -1,12 +1,15 @@
 -- The one spelling of each part.
-use Rattle.std.specs.Prelude.{◌≡◌, ℕ, ◌/◌, ◌%◌, take, List, [], ◌∷◌, ◌++◌, length, flat_map}
+use Rattle.std.specs.Prelude.{◌≡◌, ℕ, ◌+◌, ◌*◌, ◌/◌, ◌%◌, take, List, [], ◌∷◌, ◌++◌, length, map, flat_map}
+use Rattle.std.specs.List.{range_with_len}
 use Rattle.bk_level.specs.Levels.{Level}
 use Rattle.bk_level.specs.Masks.{mask_of}
 use Rattle.bk_path.specs.Paths.{Path, pack}
 use Rattle.bk_object.specs.Kinds.{kind_number}
-use Rattle.bk_object.specs.Pairs.{joined_pairs}
+use Rattle.bk_object.specs.Rows.{in_row}
 use Rattle.bk_object.specs.declared.kind.Kind.{Kind}
 use Rattle.bk_object.specs.declared.kind.Kind.TheVariants.{Directory, Segment, Mailbox, Line}
+use Rattle.bk_object.specs.declared.facts.Facts.{Facts}
+use Rattle.bk_object.specs.declared.modes.Modes.{Modes}
 use Rattle.bk_space.specs.declared.Mode.{Mode}
 use Rattle.bk_space.specs.declared.Mode.TheVariants.{Supervisor, User}
 use Rattle.bk_state.specs.declared.image.Image.{Image}
@@ -25,7 +28,7 @@ words_bytes [] = []
 words_bytes (n ∷ ns) = word_bytes n ++ words_bytes ns
 
 -- the two words of a path
-abbrev pub path_bytes : Path → List ℕ
+unfoldable pub path_bytes : Path → List ℕ
 path_bytes path = word_bytes (pack path).0 ++ word_bytes (pack path).1
 
 -- BLPK, version 1, turns and the six counts
@@ -60,13 +63,23 @@ blocks_byte Segment blocks = blocks
 blocks_byte Mailbox blocks = blocks
 blocks_byte (Line n) blocks = n
 
+-- kind, blocks or line number, level, and zero
+unfoldable pub kind_bytes : Facts → List ℕ
+kind_bytes facts = kind_number facts.kind ∷ blocks_byte facts.kind facts.blocks ∷ facts.level ∷ 0 ∷ []
+
+-- a byte of a row: the subject of twice its place in the low half, and the next one in the high half
+abbrev pub row_byte : List Modes → (place : ℕ) → ℕ
+row_byte row place = (in_row row (2 * place)).0 + 16 * (in_row row (2 * place + 1)).0
+
+unfoldable pub row_bytes : List Modes → List ℕ
+row_bytes row = map (row_byte row) (range_with_len 0 16)
+
 -- the 28 bytes of an object
 abbrev pub object_record : ObjectRec → List ℕ
 object_record o =
-    path_bytes o.path ++ (kind_number o.facts.kind ∷ blocks_byte o.facts.kind o.facts.blocks ∷ o.facts.level ∷ 0 ∷ [])
-    ++ word_bytes o.facts.quota ++ joined_pairs o.facts.row ++ word_bytes (length o.words)
+    path_bytes o.path ++ kind_bytes o.facts ++ word_bytes o.facts.quota ++ row_bytes o.facts.row ++ word_bytes (length o.words)
 
-abbrev pub object_bytes : ObjectRec → List ℕ
+unfoldable pub object_bytes : ObjectRec → List ℕ
 object_bytes o = object_record o ++ words_bytes o.words
 
 abbrev pub hold_bytes : Hold → List ℕ
@@ -83,7 +96,7 @@ header_of image = record {
   holds = length image.holds;
 }
 
-abbrev pub spelling : Image → List ℕ
+unfoldable pub spelling : Image → List ℕ
 spelling image =
     header_bytes (header_of image) ++ flat_map level_bytes image.levels ++ image.schedule ++ flat_map subject_bytes image.subjects
     ++ flat_map object_bytes image.objects ++ flat_map hold_bytes image.holds

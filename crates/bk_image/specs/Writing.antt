@@ -1,11 +1,17 @@
 -- Writing: what doesn't fit its field is refused at 0; then the bytes have to be an image.
-use Rattle.std.specs.Prelude.{ℕ, Bool, true, ◌&&◌, ◌==◌, nat_lt, if◌then◌else◌, List, length, Result, Ok}
+use Rattle.std.specs.Prelude.{◌≡◌, ℕ, ◌<◌, Bool, true, ◌&&◌, ◌==◌, nat_lt, if◌then◌else◌, List, All, length, Result, Ok}
 use Rattle.std.specs.List.{list_all}
+use Rattle.bk_level.specs.Levels.{Level}
+use Rattle.bk_level.specs.Masks.{mask_of, categories_of}
+use Rattle.bk_path.specs.Paths.{IsPath}
+use Rattle.bk_object.specs.declared.modes.Modes.{Modes}
 use Rattle.bk_object.specs.declared.kind.Kind.{Kind}
 use Rattle.bk_object.specs.declared.kind.Kind.TheVariants.{Directory, Segment, Mailbox, Line}
 use Rattle.bk_state.specs.declared.image.Image.{Image}
 use Rattle.bk_state.specs.declared.image.ObjectRec.{ObjectRec}
 use Rattle.bk_state.specs.declared.image.SubjectRec.{SubjectRec}
+use Rattle.bk_state.specs.declared.image.WindowRec.{WindowRec}
+use Rattle.bk_state.specs.declared.image.Hold.{Hold}
 use Rattle.bk_image.specs.declared.fault.ImageFault.{ImageFault}
 use Rattle.bk_image.specs.declared.fault.ImageField.TheVariants as field
 use Rattle.bk_image.specs.Parts.{◌>>=◌, fault}
@@ -40,3 +46,36 @@ counts_fit image =
 
 unfoldable pub written : Image → Result (List ℕ) ImageFault
 written image = if counts_fit image then (image_of (spelling image) >>= λ i. Ok (spelling image)) else fault 0 field.Counts
+
+-- ---- what the parts of every image have, since their types have it
+
+-- the categories are those of a mask
+abbrev pub LevelFits : Level → Type 0
+LevelFits level = categories_of (mask_of level.categories) ≡ level.categories
+
+abbrev pub WindowFits : WindowRec → Type 0
+WindowFits window = IsPath window.path
+
+-- six registers and eight fault entries
+pub record SubjectFits (s : SubjectRec) : Type 0 where
+  pub regs : length s.regs ≡ 6
+  pub entries : length s.entries ≡ 8
+  pub windows : All WindowFits s.windows
+
+-- 32 sets of the four modes
+pub record RowFits (row : List Modes) : Type 0 where
+  pub whole : length row ≡ 32
+  pub sets : All (λ modes. modes.0 < 16) row
+
+pub record ObjectFits (o : ObjectRec) : Type 0 where
+  pub path : IsPath o.path
+  pub row : RowFits o.facts.row
+
+abbrev pub HoldFits : Hold → Type 0
+HoldFits hold = IsPath hold.path
+
+pub record Fits (image : Image) : Type 0 where
+  pub levels : All LevelFits image.levels
+  pub subjects : All SubjectFits image.subjects
+  pub objects : All ObjectFits image.objects
+  pub holds : All HoldFits image.holds

@@ -3,7 +3,7 @@
 //! Model: `specs/Parts.antt` (parts, places and faults), `specs/Header.antt`, `specs/Subjects.antt`, `specs/Objects.antt` and
 //! `specs/Holds.antt` (each kind of part, its checks in their order), `specs/Image.antt` (`image_of`: the image, or the first
 //! fault), `specs/Spelling.antt` (`spelling`), `specs/Accepted.antt` (`IsAccepted`). `specs/Views.antt` says what the code keeps.
-//! Calls: `read_image`; `ImageField::text`.
+//! Calls: `read_image`; `ImageField::text`; `law_no_prefix`.
 //! Proved: `read_image` gives exactly the image that the first bytes spell and their number, or exactly the first fault and its place; each field has its text. Writing is still to come.
 //! Stands on: `bitflags`, `byteorder`, `bk_base`, `bk_level`, `bk_object`, `bk_path`, `bk_quota`, `bk_space`, `bk_state`.
 #![tactic(auto)]
@@ -11,10 +11,12 @@
 mod fault;
 mod header;
 mod hold;
+mod laws;
 mod level;
 mod lookup;
 mod object;
 mod part;
+mod put;
 mod quota;
 mod reading;
 mod rest;
@@ -22,11 +24,11 @@ mod row;
 mod schedule;
 mod subject;
 mod window;
-mod laws;
+mod writing;
 
 pub use bk_state::{
     Hold, Holds, Image, ObjectRec, Objects, SubjectRec, Subjects, WindowRec, Windows,
 };
 pub use fault::{ImageFault, ImageField, ImageStop};
-pub use reading::read_image;
 pub use laws::law_no_prefix;
+pub use reading::read_image;

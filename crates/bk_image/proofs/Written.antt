@@ -1,0 +1,67 @@
+-- What is written is an image, and that image.
+use Rattle.std.proofs.Common.{◌≡◌, ℕ, Bool, true, false, cond, List, [], ◌∷◌, ◌++◌, length, take, Result, Ok, Err, refl, sym, ap, subst, ◌∙◌, arith}
+use Rattle.std.specs.Prelude.{◌&&◌, nat_lt, IfOk, All}
+use Rattle.std.specs.List.{list_all}
+use Rattle.std.proofs.lemmas.List.{append-nil, take_at}
+use Rattle.std.proofs.lemmas.List.Elements.{All-nil, All-cons, All-head, All-tail}
+use Rattle.bk_state.specs.declared.image.Image.{Image}
+use Rattle.bk_state.specs.declared.image.ObjectRec.{ObjectRec}
+use Rattle.bk_image.specs.declared.fault.ImageFault.{ImageFault}
+use Rattle.bk_image.specs.declared.fault.ImageField.TheVariants as field
+use Rattle.bk_image.specs.declared.fault.ImageStop.{ImageStop}
+use Rattle.bk_image.specs.Parts.{◌>>=◌, Gives}
+use Rattle.bk_image.specs.Image.{image_of}
+use Rattle.bk_image.specs.Spelling.{spelling}
+use Rattle.bk_image.specs.Writing.{ObjectFits, Fits, blocks_fit, object_fits, counts_fit, written}
+use Rattle.bk_image.proofs.Takes.{bind_ok, ok_is}
+use Rattle.bk_image.proofs.Grown.{image_grows}
+use Rattle.bk_image.proofs.OnlyObjects.{ObjectIsSpelt}
+use Rattle.bk_image.proofs.OnlyImage.{IsWritable, spelling_only}
+
+and_first : (a b : Bool) → (a && b) ≡ true → a ≡ true
+and_first a b both = grind (arith, both)
+
+and_second : (a b : Bool) → (a && b) ≡ true → b ≡ true
+and_second a b both = grind (arith, both)
+
+objects_are_spelt : (objects : List ObjectRec) → All ObjectFits objects → list_all object_fits objects ≡ true → All ObjectIsSpelt objects
+objects_are_spelt [] fits test = All-nil ObjectIsSpelt
+objects_are_spelt (o ∷ objects) fits test =
+    let one = and_second (nat_lt (length o.words) 65536) (blocks_fit o.facts.kind o.facts.blocks) (and_first (object_fits o) (list_all object_fits objects) test) in
+    let o_is : ObjectIsSpelt o = record { fits = All-head ObjectFits o objects fits; blocks = one } in
+    All-cons ObjectIsSpelt o objects o_is (objects_are_spelt objects (All-tail ObjectFits o objects fits) (and_second (object_fits o) (list_all object_fits objects) test))
+
+is_writable : (image : Image) → Fits image → counts_fit image ≡ true → IsWritable image
+is_writable image fits counts = record {
+  levels = fits.levels;
+  subjects = fits.subjects;
+  objects = objects_are_spelt image.objects fits.objects (and_second _ (list_all object_fits image.objects) counts);
+  holds = fits.holds;
+}
+
+-- where its fields fit, an image's spelling is read as that image alone
+pub image_only : (image : Image) → Fits image → counts_fit image ≡ true → (other : Image) (n : ℕ) → image_of (spelling image) ≡ Ok (other, n) → (other ≡ image) × (n ≡ length (spelling image))
+image_only image fits counts other n e =
+    let same = spelling_only image (is_writable image fits counts) [] (other, n) (ap image_of (append-nil (spelling image)) ∙ e) in
+    (λ i. (same i).0, λ i. (same i).1)
+
+chosen : {A : Type 0} (b : Bool) (r : Result A ImageFault) (d : ImageFault) (y : A) → cond b r (Err d) ≡ Ok y → (b ≡ true) × (r ≡ Ok y)
+chosen true r d y e = (refl, e)
+chosen false r d y e = absurd cc
+
+-- what is written is read as the image to its end, whatever follows
+pub written_again : (image : Image) → Fits image → (bytes : List ℕ) → written image ≡ Ok bytes → (more : List ℕ) → image_of (bytes ++ more) ≡ Ok (image, length bytes)
+unfolding written
+written_again image fits bytes e more =
+    let c = chosen (counts_fit image) (image_of (spelling image) >>= λ i. Ok (spelling image)) (record { at = 0; field = field.Counts }) bytes e in
+    let b = bind_ok (image_of (spelling image)) (λ i. Ok (spelling image)) bytes c.1 in
+    let only = image_only image fits c.0 b.0.0 b.0.1 b.1 in
+    let found : image_of (spelling image) ≡ Ok (image, length (spelling image)) = b.1 ∙ (λ i. Ok (only.0 i, only.1 i)) in
+    let whole : take (length (spelling image)) (spelling image) ≡ spelling image = ap (take (length (spelling image))) (sym (append-nil (spelling image))) ∙ take_at (spelling image) [] (length (spelling image)) refl in
+    let again : image_of (spelling image ++ more) ≡ Ok (image, length (spelling image)) = ap (λ (t : List ℕ). image_of (t ++ more)) (sym whole) ∙ image_grows (spelling image) image (length (spelling image)) found more in
+    subst (λ (t : List ℕ). image_of (t ++ more) ≡ Ok (image, length t)) (ok_is (spelling image) bytes b.2) again
+
+-- the same of what a function returned
+pub is_written : {Y : Type 0} (image : Image) (view : Y → List ℕ) (r : Result Y ImageStop) → Fits image → Gives view r (written image) → IfOk r (λ y. (more : List ℕ) → image_of (view y ++ more) ≡ Ok (image, length (view y)))
+is_written image view (Ok y) fits given = written_again image fits (view y) given
+is_written image view (Err e) fits given = tt

@@ -1,0 +1,7 @@
+use Rattle.std.proofs.Common.{◌≡◌, ◌++◌, List, ℕ, OnOk, ap, subst, ◌∙◌}
+use Rattle.bk_image.specs.Spelling.{level_bytes}
+use Rattle.bk_image.proofs.PutLemmas.{level_bytes-level_of}
+use Rattle.bk_image.proofs.put.put_level.Goals as goal
+
+pub returns : goal.returns
+returns c = subst (λ (t : List ℕ). OnOk c.put_class.result (c.put_class.new.out.items ≡ c.args.out.now.items ++ t)) (level_bytes-level_of c.level.inside c.level.invariant ∙ ap level_bytes c.level.view_is) c.put_class.ensures

@@ -1,0 +1,195 @@
+// The parts of an image as bytes, put at the end of those that stand already.
+
+ghost use Rattle.std.specs.Prelude.{◌≡◌, ◌++◌, ◌∷◌, [], ◌<◌, length, map, flat_map, OnOk, IsTrue};
+ghost use Rattle.std.specs.List.{range_with_len, list_all};
+ghost use Rattle.bk_object.specs.Kinds.{kind_number};
+ghost use Rattle.bk_image.specs.Spelling.{word_bytes, words_bytes, path_bytes, level_bytes, mode_number, window_bytes, subject_bytes, blocks_byte, kind_bytes, row_bytes, object_bytes, hold_bytes};
+ghost use Rattle.bk_image.specs.Writing.{windows_fit, object_fits};
+
+use bitflags::Flags;
+use bk_level::{Level, LevelTable};
+use bk_object::{Facts, Kind, Row};
+use bk_path::Path;
+use bk_space::Mode;
+use bk_state::{Hold, ObjectRec, SubjectRec, WindowRec};
+use byteorder::{ByteOrder, LittleEndian};
+use std::alloc::AllocError;
+
+/// The low byte, and then the high one.
+pub(crate) fn put_word(out: &mut Vec<u8>, n: u16) -> Result<(), AllocError>
+    ensures { OnOk result (out.new.items ≡ out.old.items ++ word_bytes n) }
+{
+    let mut bytes = [0; 2];
+    LittleEndian::write_u16(&mut bytes, n);
+    out.extend_from_slice(&bytes)
+}
+
+fn put_words(out: &mut Vec<u8>, words: &[u16]) -> Result<(), AllocError>
+    ensures { OnOk result (out.new.items ≡ out.old.items ++ words_bytes words.now) }
+{
+    for n in words {
+        put_word(out, *n)?;
+    }
+    Ok(())
+}
+
+#[tactic(auto, unfolding(crate::specs::Spelling::path_bytes))]
+fn put_path(out: &mut Vec<u8>, path: Path) -> Result<(), AllocError>
+    ensures { OnOk result (out.new.items ≡ out.old.items ++ path_bytes path) }
+{
+    let (first, second) = path.pack();
+    put_word(out, first)?;
+    put_word(out, second)
+}
+
+// Class, zero, and the mask of the categories.
+fn put_class(out: &mut Vec<u8>, class: u8, mask: u16) -> Result<(), AllocError>
+    ensures { OnOk result (out.new.items ≡ out.old.items ++ class ∷ 0 ∷ word_bytes mask) }
+{
+    out.push(class)?;
+    out.push(0)?;
+    put_word(out, mask)
+}
+
+fn put_level(out: &mut Vec<u8>, level: Level) -> Result<(), AllocError>
+    ensures { OnOk result (out.new.items ≡ out.old.items ++ level_bytes level) }
+{
+    put_class(out, level.class, level.cats)
+}
+
+pub(crate) fn put_levels(out: &mut Vec<u8>, levels: &LevelTable) -> Result<(), AllocError>
+    ensures { OnOk result (out.new.items ≡ out.old.items ++ flat_map level_bytes levels.now) }
+{
+    for n in 0..levels.len() {
+        put_level(out, levels.get(n).unwrap())?;
+    }
+    Ok(())
+}
+
+fn mode_number(mode: Mode) -> u8
+    ensures { result ≡ mode_number mode }
+{
+    match mode {
+        Mode::Supervisor => 1,
+        Mode::User => 3,
+    }
+}
+
+fn put_windows(out: &mut Vec<u8>, windows: &[WindowRec]) -> Result<(), AllocError>
+    ensures { OnOk result (out.new.items ≡ out.old.items ++ flat_map window_bytes windows.now) }
+{
+    for window in windows {
+        out.push(window.index)?;
+        put_path(out, window.path)?;
+    }
+    Ok(())
+}
+
+fn put_subject(out: &mut Vec<u8>, s: &SubjectRec) -> Result<(), AllocError>
+    requires { IsTrue (windows_fit s.now) }
+    ensures { OnOk result (out.new.items ≡ out.old.items ++ subject_bytes s.now) }
+{
+    let windows = s.windows.as_slice();
+    out.push(s.f_s)?;
+    out.push(s.f_c)?;
+    out.push(mode_number(s.mode))?;
+    out.push(mode_number(s.previous))?;
+    put_words(out, &s.regs)?;
+    put_word(out, s.user_sp)?;
+    put_word(out, s.super_sp)?;
+    put_word(out, s.pc)?;
+    put_words(out, &s.entries)?;
+    out.push(windows.len() as u8)?;
+    put_windows(out, windows)
+}
+
+pub(crate) fn put_subjects(out: &mut Vec<u8>, subjects: &[SubjectRec]) -> Result<(), AllocError>
+    requires { IsTrue (list_all windows_fit subjects.now) }
+    ensures { OnOk result (out.new.items ≡ out.old.items ++ flat_map subject_bytes subjects.now) }
+{
+    for s in subjects {
+        put_subject(out, s)?;
+    }
+    Ok(())
+}
+
+fn kind_number(kind: Kind) -> u8
+    ensures { result ≡ kind_number kind }
+{
+    match kind {
+        Kind::Directory => 0,
+        Kind::Segment => 1,
+        Kind::Mailbox => 2,
+        Kind::Line(_) => 3,
+    }
+}
+
+// The number of a line, and the blocks of all else.
+fn blocks_byte(kind: Kind, blocks: u8) -> u8
+    ensures { result ≡ blocks_byte kind blocks }
+{
+    match kind {
+        Kind::Directory | Kind::Segment | Kind::Mailbox => blocks,
+        Kind::Line(n) => n,
+    }
+}
+
+// Two subjects in each byte, the lower one in its low half.
+#[tactic(auto, unfolding(crate::specs::Spelling::row_bytes))]
+fn put_row(out: &mut Vec<u8>, row: &Row) -> Result<(), AllocError>
+    ensures { OnOk result (out.new.items ≡ out.old.items ++ row_bytes row.now) }
+{
+    for place in 0..16u8 {
+        let low = row.get(2 * place);
+        let high = row.get(2 * place + 1);
+        out.push(low.bits() + 16 * high.bits())?;
+    }
+    Ok(())
+}
+
+// Kind, blocks or line number, level, and zero.
+#[tactic(auto, unfolding(crate::specs::Spelling::kind_bytes))]
+fn put_kind(out: &mut Vec<u8>, facts: &Facts) -> Result<(), AllocError>
+    ensures { OnOk result (out.new.items ≡ out.old.items ++ kind_bytes facts.now) }
+{
+    out.push(kind_number(facts.kind))?;
+    out.push(blocks_byte(facts.kind, facts.blocks))?;
+    out.push(facts.level)?;
+    out.push(0)?;
+    Ok(())
+}
+
+#[tactic(auto, unfolding(crate::specs::Spelling::object_bytes))]
+fn put_object(out: &mut Vec<u8>, o: &ObjectRec) -> Result<(), AllocError>
+    requires { IsTrue (object_fits o.now) }
+    ensures { OnOk result (out.new.items ≡ out.old.items ++ object_bytes o.now) }
+{
+    let words = o.words.as_slice();
+    put_path(out, o.path)?;
+    put_kind(out, &o.facts)?;
+    put_word(out, o.facts.quota)?;
+    put_row(out, &o.facts.row)?;
+    put_word(out, words.len() as u16)?;
+    put_words(out, words)
+}
+
+pub(crate) fn put_objects(out: &mut Vec<u8>, objects: &[ObjectRec]) -> Result<(), AllocError>
+    requires { IsTrue (list_all object_fits objects.now) }
+    ensures { OnOk result (out.new.items ≡ out.old.items ++ flat_map object_bytes objects.now) }
+{
+    for o in objects {
+        put_object(out, o)?;
+    }
+    Ok(())
+}
+
+pub(crate) fn put_holds(out: &mut Vec<u8>, holds: &[Hold]) -> Result<(), AllocError>
+    ensures { OnOk result (out.new.items ≡ out.old.items ++ flat_map hold_bytes holds.now) }
+{
+    for hold in holds {
+        out.push(hold.subject)?;
+        out.push(hold.modes.bits())?;
+        put_path(out, hold.path)?;
+    }
+    Ok(())
+}

@@ -1,0 +1,119 @@
+// Writing an image: its fields have to hold the value, and its bytes have to be an image.
+
+ghost use Rattle.std.specs.Prelude.{◌≡◌, ◌++◌, ◌∷◌, [], OnOk, IfOk, IsTrue};
+ghost use Rattle.std.specs.List.{list_all};
+ghost use Rattle.bk_image.specs.Spelling.{word_bytes, header_bytes, header_of, spelling};
+ghost use Rattle.bk_image.specs.Writing.{windows_fit, blocks_fit, object_fits, counts_fit};
+
+use crate::put::{put_holds, put_levels, put_objects, put_subjects, put_word};
+use bk_object::Kind;
+use bk_state::{Image, ObjectRec, SubjectRec};
+use std::alloc::{AllocError, Global};
+
+// Whether the number of each subject's windows fits into a byte.
+fn all_windows_fit(subjects: &[SubjectRec]) -> bool
+    ensures { result ≡ list_all windows_fit subjects.now }
+{
+    for s in subjects {
+        if s.windows.as_slice().len() >= 256 {
+            return false;
+        }
+    }
+    true
+}
+
+// Whether the number in the place of the blocks is all that has to stand there.
+fn blocks_fit(kind: Kind, blocks: u8) -> bool
+    ensures { result ≡ blocks_fit kind blocks }
+{
+    match kind {
+        Kind::Directory | Kind::Segment | Kind::Mailbox => true,
+        Kind::Line(_) => blocks == 0,
+    }
+}
+
+fn object_fits(o: &ObjectRec) -> bool
+    ensures { result ≡ object_fits o.now }
+{
+    o.words.as_slice().len() < 65536 && blocks_fit(o.facts.kind, o.facts.blocks)
+}
+
+fn all_objects_fit(objects: &[ObjectRec]) -> bool
+    ensures { result ≡ list_all object_fits objects.now }
+{
+    for o in objects {
+        if !object_fits(o) {
+            return false;
+        }
+    }
+    true
+}
+
+// Whether each count holds the number of what it counts, and each field its value.
+fn counts_fit(image: &Image) -> bool
+    ensures { result ≡ counts_fit image.now }
+{
+    let subjects = image.subjects.as_slice();
+    let objects = image.objects.as_slice();
+    let levels = image.levels.len();
+    subjects.len() < 256
+        && image.schedule.as_slice().len() < 256
+        && objects.len() < 65536
+        && image.holds.as_slice().len() < 65536
+        && all_windows_fit(subjects)
+        && all_objects_fit(objects)
+}
+
+// The magic, version 1, and the turns of a slot.
+fn put_turns(out: &mut Vec<u8>, turns: u16) -> Result<(), AllocError>
+    ensures { OnOk result (out.new.items ≡ out.old.items ++ (66 ∷ 76 ∷ 80 ∷ 75 ∷ []) ++ word_bytes 1 ++ word_bytes turns) }
+{
+    out.extend_from_slice(b"BLPK")?;
+    put_word(out, 1)?;
+    put_word(out, turns)
+}
+
+// The four counts of one byte.
+fn put_counts(
+    out: &mut Vec<u8>,
+    levels: u8,
+    subjects: u8,
+    lines: u8,
+    schedule: u8,
+) -> Result<(), AllocError>
+    ensures { OnOk result (out.new.items ≡ out.old.items ++ levels ∷ subjects ∷ lines ∷ schedule ∷ []) }
+{
+    out.push(levels)?;
+    out.push(subjects)?;
+    out.push(lines)?;
+    out.push(schedule)?;
+    Ok(())
+}
+
+fn put_header(out: &mut Vec<u8>, image: &Image) -> Result<(), AllocError>
+    requires { IsTrue (counts_fit image.now) }
+    ensures { OnOk result (out.new.items ≡ out.old.items ++ header_bytes (header_of image.now)) }
+{
+    let subjects = image.subjects.as_slice().len() as u8;
+    let schedule = image.schedule.as_slice().len() as u8;
+    put_turns(out, image.turns)?;
+    put_counts(out, image.levels.len(), subjects, image.lines, schedule)?;
+    put_word(out, image.objects.as_slice().len() as u16)?;
+    put_word(out, image.holds.as_slice().len() as u16)
+}
+
+// The bytes of an image whose fields fit.
+#[tactic(auto, unfolding(crate::specs::Spelling::spelling))]
+fn spell(alloc: Global, image: &Image) -> Result<Vec<u8>, AllocError>
+    requires { IsTrue (counts_fit image.now) }
+    ensures { IfOk result (λ bytes. bytes.items ≡ spelling image.now) }
+{
+    let mut out = Vec::new(alloc);
+    put_header(&mut out, image)?;
+    put_levels(&mut out, &image.levels)?;
+    out.extend_from_slice(image.schedule.as_slice())?;
+    put_subjects(&mut out, image.subjects.as_slice())?;
+    put_objects(&mut out, image.objects.as_slice())?;
+    put_holds(&mut out, image.holds.as_slice())?;
+    Ok(out)
+}
