@@ -6,7 +6,7 @@ use Rattle.bk_level.specs.Levels.{dominates, level_at}
 use Rattle.bk_state.specs.State.{greatest_level, current_level}
 use Rattle.bk_state.specs.Start.{state_of, clearance_from, process_from}
 use Rattle.bk_state.specs.declared.image.Image.{Image}
-use Rattle.bk_state.specs.declared.process.Clearance.{Clearance}
+use Rattle.bk_state.specs.declared.clearance.Clearance.{Clearance}
 use Rattle.bk_image.specs.Accepted.{IsAccepted}
 use Rattle.bk_image.proofs.SecureLists.{not_false, mapped_at, all_mapped}
 

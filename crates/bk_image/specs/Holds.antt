@@ -11,7 +11,7 @@ use Rattle.bk_quota.specs.Charges.{passes}
 use Rattle.bk_state.specs.Start.{clearance_from}
 use Rattle.bk_state.specs.declared.image.Hold.{Hold}
 use Rattle.bk_state.specs.declared.image.SubjectRec.{SubjectRec}
-use Rattle.bk_state.specs.declared.process.Clearance.{Clearance}
+use Rattle.bk_state.specs.declared.clearance.Clearance.{Clearance}
 use Rattle.bk_image.specs.declared.fault.ImageField.TheVariants as field
 use Rattle.bk_image.specs.Parts.{Rest, Reads, Check, checked, last, is_outside}
 use Rattle.bk_image.specs.Numbers.{byte, path_in, path_at}
