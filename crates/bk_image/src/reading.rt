@@ -1,7 +1,12 @@
 // Images, as their parts follow one another.
 
+ghost use Rattle.std.specs.Prelude.{◌≡◌, ◌++◌, ℕ, List, length, Ok, IfOk};
+ghost use Rattle.bk_state.specs.Secure.{Secure};
+ghost use Rattle.bk_state.specs.Start.{state_of};
+ghost use Rattle.bk_image.specs.Accepted.{IsAccepted};
+ghost use Rattle.bk_image.specs.Image.{image_at, image_of, IsImage};
 ghost use Rattle.bk_image.specs.Parts.{Gives};
-ghost use Rattle.bk_image.specs.Image.{image_at, image_of};
+ghost use Rattle.bk_image.specs.Spelling.{spelling, IsSpelt};
 ghost use Rattle.bk_image.specs.Views.{rest_of};
 
 use crate::fault::ImageStop;
@@ -47,17 +52,31 @@ fn next(alloc: Global, rest: &mut Rest) -> Result<Image, ImageStop>
     })
 }
 
+// The image that the first bytes spell, or their first fault.
+#[tactic(auto, unfolding(crate::specs::Image::image_of))]
+fn first_image(alloc: Global, bytes: &[u8]) -> Result<(Image, usize), ImageStop>
+    ensures { Gives (λ x. x) result (image_of bytes.now) }
+{
+    let mut rest = Rest { at: 0, bytes };
+    let image = next(alloc, &mut rest)?;
+    Ok((image, rest.at as usize))
+}
+
 /// The image that the first bytes spell, and how many bytes those are; what follows them isn't looked at.
 ///
 /// `Bad` gives the place, from 0, and the field of the first fault: parts are read in order, each is checked when it is
 /// whole, and its checks have an order too. The format, and what is checked of it, is this project's own; the security
 /// checks of held objects are those of MTR-2997.
-#[tactic(auto, unfolding(crate::specs::Image::image_of))]
 pub fn read_image(alloc: Global, bytes: &[u8]) -> Result<(Image, usize), ImageStop>
     // What is read, or which fault it is.
     ensures exact { Gives (λ x. x) result (image_of bytes.now) }
+    // What is read is spelt by exactly those bytes.
+    ensures spelt { IfOk result (λ x. IsSpelt bytes.now x.0 x.1) }
+    // No fault: all checks of each part passed, and the state that the image stands for is secure.
+    ensures accepted { IfOk result (λ x. IsAccepted x.0) }
+    ensures secure { IfOk result (λ x. Secure (state_of x.0)) }
+    // An image is read again, whatever follows it.
+    ensures again { (image : Image) (more : List ℕ) → IsImage (spelling image) image → bytes.now ≡ spelling image ++ more → Gives (λ x. x) result (Ok (image, length (spelling image))) }
 {
-    let mut rest = Rest { at: 0, bytes };
-    let image = next(alloc, &mut rest)?;
-    Ok((image, rest.at as usize))
+    first_image(alloc, bytes)
 }
