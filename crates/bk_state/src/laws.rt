@@ -1,8 +1,11 @@
-ghost use Rattle.std.specs.Prelude.{◌≡◌, ◌<◌, ℕ, true, Some, None};
+ghost use Rattle.std.specs.Prelude.{◌≡◌, ◌<◌, ℕ, true, Some, None, length};
+ghost use Rattle.bk_process.specs.declared.process.Process.{Process};
+ghost use Rattle.bk_state.specs.Answers.{called};
 ghost use Rattle.bk_state.specs.Calls.{call_of, call_checks};
 ghost use Rattle.bk_state.specs.Checks.{is_in_order, order};
 ghost use Rattle.bk_state.specs.Secure.{Secure};
 ghost use Rattle.bk_state.specs.Smallest.{smallest};
+ghost use Rattle.bk_state.specs.State.{State, clearance_of};
 
 use crate::{Call, Rule, Service};
 
@@ -26,4 +29,10 @@ pub fn law_numbers()
     ensures line_in { call_of 0o20 ≡ Some (Call.Other Service.LineIn) }
     ensures stop { call_of 0o26 ≡ Some (Call.Other Service.Stop) }
     ensures past { (n : ℕ) → 0o26 < n → call_of n ≡ None }
+{}
+
+/// A call looks at the objects, the current access set and the levels, at the number of subjects and the caller's own
+/// levels, and at nothing else of the state.
+pub fn law_what_a_call_looks_at()
+    ensures { (v w : State) (s : ℕ) → v.objects ≡ w.objects → v.access ≡ w.access → v.fixed.levels ≡ w.fixed.levels → clearance_of v s ≡ clearance_of w s → length v.fixed.subjects ≡ length w.fixed.subjects → (p : Process) (number : ℕ) → called v s p number ≡ called w s p number }
 {}

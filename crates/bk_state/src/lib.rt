@@ -7,7 +7,7 @@
 //! `specs/Start.antt` (the state that an image stands for), `specs/FirstImage.antt` (first images).
 //! Calls: none.
 //! Proved: a secure state is there (`specs/Smallest.antt`, `law_smallest`), and the checks of each call stand in one order
-//! (`law_order_of_checks`), and each has its number (`law_numbers`); the crates above prove their calls against these definitions.
+//! (`law_order_of_checks`), each has its number (`law_numbers`), and what it looks at is told (`law_what_a_call_looks_at`); the crates above prove their calls against these definitions.
 //! Stands on: `bk_base`, `bk_level`, `bk_object`, `bk_path`, `bk_process`, `bk_quota`, `bk_space`.
 #![tactic(auto)]
 
@@ -22,5 +22,5 @@ pub use call::{Call, Service};
 pub use clearance::Clearance;
 pub use first::{FIRST_BACK, FIRST_FRONT};
 pub use image::{Hold, Holds, Image, ObjectRec, Objects, SubjectRec, Subjects, WindowRec, Windows};
-pub use laws::{law_numbers, law_order_of_checks, law_smallest};
+pub use laws::{law_numbers, law_order_of_checks, law_smallest, law_what_a_call_looks_at};
 pub use rule::Rule;
