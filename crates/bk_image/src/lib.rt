@@ -21,6 +21,8 @@ mod rest;
 mod row;
 mod schedule;
 mod subject;
+#[cfg(test)]
+mod tests;
 mod window;
 
 pub use bk_state::{
