@@ -1,3 +1,8 @@
+pub mod Loops
+pub mod Words
+pub mod Ordered
+pub mod Pairs
+pub mod Shares
 pub mod Takes
 pub mod Spelt
 pub mod Steps

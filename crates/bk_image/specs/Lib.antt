@@ -4,6 +4,7 @@ pub mod Numbers
 pub mod Header
 pub mod Subjects
 pub mod Objects
+pub mod Views
 pub mod Holds
 pub mod Image
 pub mod Spelling

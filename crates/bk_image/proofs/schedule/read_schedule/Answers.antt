@@ -1,0 +1,20 @@
+use Rattle.std.proofs.Common.{◌≡◌, ◌++◌, ◌∷◌, []}
+use Rattle.std.proofs.lemmas.Result.{err_from_is_err_and}
+use Rattle.bk_image.specs.Parts.{each_of}
+use Rattle.bk_image.specs.Views.{rest_of}
+use Rattle.bk_image.specs.Subjects.{schedule_at}
+use Rattle.bk_image.proofs.Loops.{goes_on, stops, is_done}
+use Rattle.bk_image.proofs.schedule.read_schedule.Goals as goal
+
+pub returns-in_err-subject : goal.returns-in_err-subject
+returns-in_err-subject c =
+    let p = err_from_is_err_and c.from_residual.result c.from_residual.ensures.1 in
+    rw (p.1, p.2) (stops (schedule_at c.args.subjects) c.in_err-subject.field-0.0 c.loop.schedule.items c.args.count c.loop.counter (rest_of c.loop.rest) (each_of (schedule_at c.args.subjects) c.args.count [] (rest_of c.args.rest.now)) c.loop-test.true (rw c.deref.ensures.value at c.in_err-subject.ensures) c.loop.invariant)
+
+pub loop-preserved : goal.loop-preserved
+loop-preserved c =
+    let e : c.push.new.self.items ≡ c.loop.schedule.items ++ c.in_ok-subject.subject ∷ [] = c.in_ok-push.ensures.items in
+    rw e (goes_on (schedule_at c.args.subjects) c.loop.schedule.items c.args.count c.loop.counter (rest_of c.loop.rest) c.in_ok-subject.subject (rest_of c.next.new.rest) (each_of (schedule_at c.args.subjects) c.args.count [] (rest_of c.args.rest.now)) c.loop-test.true (rw c.deref.ensures.value at c.in_ok-subject.ensures) c.loop.invariant)
+
+pub returns : goal.returns
+returns c = is_done (schedule_at c.args.subjects) c.loop.schedule.items c.args.count c.loop.counter (rest_of c.loop.rest) (each_of (schedule_at c.args.subjects) c.args.count [] (rest_of c.args.rest.now)) c.loop-test.false c.loop.invariant

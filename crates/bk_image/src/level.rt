@@ -1,0 +1,85 @@
+// Levels: each stands once.
+
+ghost use Rattle.std.specs.Prelude.{◌≡◌, ◌<◌, ◌≤◌, [], ◌∷◌, ◌++◌, false, length, IfOk};
+ghost use Rattle.std.specs.List.{list_any};
+ghost use Rattle.bk_level.specs.Levels as levels_model;
+ghost use Rattle.bk_level.specs.Levels.{is_same_level};
+ghost use Rattle.bk_image.specs.Parts.{Gives, each_of};
+ghost use Rattle.bk_image.specs.Subjects.{level_at};
+ghost use Rattle.bk_image.specs.Views.{rest_of};
+
+use crate::fault::{ImageField, ImageStop};
+use crate::part::{bad, part, word};
+use crate::rest::Rest;
+use bk_level::{Level, LevelTable};
+
+#[tactic(auto, unfolding(bk_level::specs::Masks::categories_of))]
+fn lowest() -> Level
+    ensures { result ≡ levels_model.lowest }
+{
+    Level { class: 0, cats: 0 }
+}
+
+/// The level with the number; past the end the lowest level.
+pub(crate) fn level_at(levels: &LevelTable, n: u8) -> Level
+    ensures { result ≡ levels_model.level_at levels.now n }
+{
+    match levels.get(n) {
+        Some(level) => level,
+        None => lowest(),
+    }
+}
+
+// Whether the level stands in the table.
+fn has_level(levels: &LevelTable, level: Level) -> bool
+    ensures { result ≡ list_any (is_same_level level) levels.now }
+{
+    for n in 0..levels.len() {
+        if level == level_at(levels, n) {
+            return true;
+        }
+    }
+    false
+}
+
+// One more level, which doesn't stand in the table yet.
+fn add_level(levels: &mut LevelTable, level: Level)
+    requires few { length levels.old < 64 }
+    requires new { list_any (is_same_level level) levels.old ≡ false }
+    ensures { levels.new ≡ levels.old ++ level ∷ [] }
+{
+    let _added = levels.push(level);
+}
+
+#[tactic(auto, unfolding(crate::specs::Subjects::level_at))]
+fn next(before: &LevelTable, rest: &mut Rest) -> Result<Level, ImageStop>
+    ensures exact { Gives (λ level. (level, rest_of rest.new)) result (level_at before.now (rest_of rest.old)) }
+    ensures new { IfOk result (λ level. list_any (is_same_level level) before.now ≡ false) }
+{
+    let at = rest.at;
+    let bytes = part(rest, 4)?;
+    if bytes[1] != 0 {
+        return Err(bad(at, ImageField::Level));
+    }
+    let level = Level {
+        class: bytes[0],
+        cats: word(bytes, 2),
+    };
+    if has_level(before, level) {
+        return Err(bad(at, ImageField::Level));
+    }
+    Ok(level)
+}
+
+/// So many levels.
+pub(crate) fn read_levels(count: u8, rest: &mut Rest) -> Result<LevelTable, ImageStop>
+    requires { count ≤ 64 }
+    ensures { Gives (λ levels. (levels, rest_of rest.new)) result (each_of level_at count [] (rest_of rest.old)) }
+{
+    let mut levels = LevelTable::new();
+    for _ in 0..count {
+        let level = next(&levels, rest)?;
+        add_level(&mut levels, level);
+    }
+    Ok(levels)
+}

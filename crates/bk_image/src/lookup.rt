@@ -1,0 +1,38 @@
+// Objects that were read, found by their paths: they stand in the order of paths, so that they are searched by halves.
+
+ghost use Rattle.std.specs.Prelude.{◌≡◌};
+ghost use Rattle.bk_path.specs.Paths as paths;
+ghost use Rattle.bk_image.specs.Objects as model;
+ghost use Rattle.bk_image.specs.Views.{IsAscending};
+
+use bk_object::Facts;
+use bk_path::Path;
+use bk_state::ObjectRec;
+
+/// The facts of the object at the path.
+pub(crate) fn facts_at(objects: &[ObjectRec], path: Path) -> Option<Facts>
+    requires { IsAscending objects.now }
+    ensures { result ≡ model.facts_at (model.objects_in objects.now) path }
+{
+    match objects.binary_search_by_key(&path, |object| object.path) {
+        Ok(place) => Some(objects[place].facts),
+        Err(_) => None,
+    }
+}
+
+/// The path without its last entry; that of root is root.
+pub(crate) fn above(path: Path) -> Path
+    ensures { result ≡ paths.parent path }
+{
+    match path.parent() {
+        Some(above) => above,
+        None => path,
+    }
+}
+
+/// Whether the path is root.
+pub(crate) fn is_root(path: Path) -> bool
+    ensures { result ≡ paths.is_root path }
+{
+    path.depth() == 0
+}

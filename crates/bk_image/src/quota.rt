@@ -1,0 +1,183 @@
+// What is checked after all objects: no cell is used over its limit, and there are as many line objects as lines.
+
+ghost use Rattle.std.specs.Prelude.{◌≡◌, ◌+◌, ◌*◌, ◌≤◌, ◌==◌, not, length, map, sum_by, MatchResult};
+ghost use Rattle.std.specs.List.{count_by};
+ghost use Rattle.bk_quota.specs.Charges as charges;
+ghost use Rattle.bk_image.specs.Parts.{Gives};
+ghost use Rattle.bk_image.specs.Objects as model;
+ghost use Rattle.bk_image.specs.Views.{IsAscending, part_of, share_at};
+
+use crate::fault::{ImageField, ImageStop};
+use crate::lookup::{above, facts_at, is_root};
+use crate::object::{has_cell, is_directory, level_of};
+use crate::part::bad;
+use bk_object::{Facts, Kind};
+use bk_path::Path;
+use bk_quota::charge_of;
+use bk_state::ObjectRec;
+use std::alloc::Global;
+
+/// What an object is charged, and the path of the cell that pays for it.
+#[derive(Clone, Copy)]
+pub(crate) struct Share {
+    pub(crate) cell: Path,
+    pub(crate) charge: u16,
+}
+
+// Whether the object at the path has another level.
+fn has_other_level(objects: &[ObjectRec], path: Path, level: u8) -> bool
+    requires { IsAscending objects.now }
+    ensures { result ≡ charges.passes (λ above. not (above.level == level)) (model.facts_at (model.objects_in objects.now) path) }
+{
+    match facts_at(objects, path) {
+        None => false,
+        Some(facts) => facts.level != level,
+    }
+}
+
+// Whether a directory of another level than its parent's is at the path.
+fn is_upgraded(objects: &[ObjectRec], path: Path) -> bool
+    requires { IsAscending objects.now }
+    ensures { result ≡ charges.is_upgraded_in (λ object. object.facts) (model.objects_in objects.now) path }
+{
+    if is_root(path) {
+        return false;
+    }
+    match facts_at(objects, path) {
+        None => false,
+        Some(facts) => {
+            is_directory(facts.kind) && has_other_level(objects, above(path), facts.level)
+        }
+    }
+}
+
+// The nearest of a directory and its ancestors that has a cell.
+fn governing(objects: &[ObjectRec], path: Path) -> Path
+    requires { IsAscending objects.now }
+    ensures { result ≡ charges.governing_in (λ object. object.facts) (model.objects_in objects.now) path }
+{
+    let mut nearest = path;
+    for _ in 0..path.depth() {
+        if is_upgraded(objects, nearest) {
+            return nearest;
+        }
+        nearest = above(nearest);
+    }
+    nearest
+}
+
+// The share of an object with that path and those facts.
+fn share_at(objects: &[ObjectRec], path: Path, facts: &Facts) -> Share
+    requires { IsAscending objects.now }
+    ensures { result ≡ share_at (model.objects_in objects.now) path facts.now }
+{
+    match path.parent() {
+        None => Share {
+            cell: Path::root(),
+            charge: 0,
+        },
+        Some(above) => Share {
+            cell: governing(objects, above),
+            charge: charge_of(facts, level_of(objects, above)),
+        },
+    }
+}
+
+// The shares of all objects.
+fn shares_of(alloc: Global, objects: &[ObjectRec]) -> Result<Vec<Share>, ImageStop>
+    requires { IsAscending objects.now }
+    ensures { MatchResult result (λ v. v.items ≡ map (λ o. share_at (model.objects_in objects.now) o.path o.facts) objects.now) (λ e. e ≡ ImageStop.NoMemory) }
+{
+    let mut shares = Vec::new(alloc);
+    for object in objects {
+        shares.push(share_at(objects, object.path, &object.facts))?;
+    }
+    Ok(shares)
+}
+
+// The used number of the cell: 1, and the charges of all for which it pays.
+fn used(shares: &[Share], cell: Path) -> u64
+    requires { length shares.now ≤ 65535 }
+    ensures { result ≡ 1 + sum_by (part_of cell) shares.now }
+{
+    let mut sum = 1u64;
+    for share in shares {
+        if share.cell == cell {
+            sum += u64::from(share.charge);
+        }
+    }
+    sum
+}
+
+// Whether more of the object's cell is used than there is.
+fn is_over(objects: &[ObjectRec], shares: &[Share], object: &ObjectRec) -> bool
+    requires ascending { IsAscending objects.now }
+    requires shares { shares.now ≡ map (λ o. share_at (model.objects_in objects.now) o.path o.facts) objects.now }
+    requires few { length shares.now ≤ 65535 }
+    ensures { result ≡ model.is_over (model.objects_in objects.now) object.now }
+{
+    has_cell(objects, object.path, object.facts.kind, object.facts.level)
+        && u64::from(object.facts.quota) < used(shares, object.path)
+}
+
+// No cell is used over its limit; the objects stand from the place on.
+#[tactic(auto, unfolding(crate::specs::Objects::quotas_at))]
+fn check_quotas(objects: &[ObjectRec], shares: &[Share], start: u32) -> Result<(), ImageStop>
+    requires ascending { IsAscending objects.now }
+    requires shares { shares.now ≡ map (λ o. share_at (model.objects_in objects.now) o.path o.facts) objects.now }
+    requires few { length shares.now ≤ 65535 }
+    requires fits { start + sum_by model.size objects.now ≤ 524288 }
+    ensures { Gives (λ x. tt) result (model.quotas_at (model.objects_in objects.now) objects.now start) }
+{
+    let mut at = start;
+    for object in objects {
+        if is_over(objects, shares, object) {
+            return Err(bad(at, ImageField::Quota));
+        }
+        at += 28 + 2 * object.words.as_slice().len() as u32;
+    }
+    Ok(())
+}
+
+fn is_any_line(kind: Kind) -> bool
+    ensures { result ≡ model.is_any_line kind }
+{
+    match kind {
+        Kind::Directory | Kind::Segment | Kind::Mailbox => false,
+        Kind::Line(_) => true,
+    }
+}
+
+// How many line objects there are.
+fn line_objects(objects: &[ObjectRec]) -> usize
+    ensures { result ≡ count_by (λ o. model.is_any_line o.facts.kind) objects.now }
+{
+    let mut count = 0;
+    for object in objects {
+        if is_any_line(object.facts.kind) {
+            count += 1;
+        }
+    }
+    count
+}
+
+/// What is checked after all objects, which stand from the place on.
+#[tactic(auto, unfolding(crate::specs::Objects::after_objects))]
+pub(crate) fn check_objects(
+    alloc: Global,
+    lines: u8,
+    objects: &[ObjectRec],
+    start: u32,
+) -> Result<(), ImageStop>
+    requires ascending { IsAscending objects.now }
+    requires few { length objects.now ≤ 65535 }
+    requires fits { start + sum_by model.size objects.now ≤ 524288 }
+    ensures { Gives (λ x. tt) result (model.after_objects lines objects.now start) }
+{
+    let shares = shares_of(alloc, objects)?;
+    check_quotas(objects, &shares, start)?;
+    if line_objects(objects) < lines as usize {
+        return Err(bad(10, ImageField::Lines));
+    }
+    Ok(())
+}

@@ -1,0 +1,11 @@
+// What is left of the input.
+
+ghost use Rattle.std.specs.Prelude.{◌≤◌};
+
+/// The bytes that are left, and the place of the first of them in the input.
+#[derive(Clone, Copy)]
+pub(crate) struct Rest<'a> {
+    pub(crate) at: u32,
+    pub(crate) bytes: &'a [u8],
+    ghost within: { at ≤ 524288 },
+}
