@@ -104,6 +104,6 @@ written_again image fits bytes e more =
     subst (λ (t : List ℕ). image_of (t ++ more) ≡ Ok (as_read image, length t)) (ok_is (spelling image) bytes b.2) again
 
 -- the same of what a function returned
-pub is_written : {Y : Type 0} (image : Image) (view : Y → List ℕ) (r : Result Y ImageStop) → Fits image → Gives view r (written image) → IfOk r (λ y. (more : List ℕ) → image_of (view y ++ more) ≡ Ok (as_read image, length (view y)))
+pub is_written : {Y : Type 0} (image : Image) (view : Y → List ℕ) (r : Result Y ImageStop) → IfOk r (λ y. Fits image) → Gives view r (written image) → IfOk r (λ y. (more : List ℕ) → image_of (view y ++ more) ≡ Ok (as_read image, length (view y)))
 is_written image view (Ok y) fits given = written_again image fits (view y) given
 is_written image view (Err e) fits given = tt

@@ -35,3 +35,4 @@ pub use bk_state::{
 pub use fault::{ImageFault, ImageField, ImageStop};
 pub use laws::law_no_prefix;
 pub use reading::read_image;
+pub use writing::write_image;
