@@ -150,3 +150,49 @@ pub fn write_image(alloc: Global, image: &Image) -> Result<Vec<u8>, ImageStop>
 {
     checked_bytes(alloc, image)
 }
+
+#[cfg(test)]
+mod tests {
+    use super::write_image;
+    use crate::{Image, ImageFault, ImageField, ImageStop, read_image};
+    use bk_base::Bytes;
+    use bk_state::{FIRST_BACK, FIRST_FRONT};
+    use std::test::Fail;
+
+    // The 14 words of the sample's program, low bytes first.
+    const ECHO: [u8; 28] = [
+        0x41, 0x11, 0xc2, 0x15, 0x00, 0x00, 0x10, 0x88, 0xc0, 0x0b, 0x02, 0x03, 0x14, 0x88, 0xf8,
+        0x01, 0x83, 0x10, 0x41, 0x11, 0xc2, 0x15, 0x00, 0x00, 0x0f, 0x88, 0xf2, 0x01,
+    ];
+
+    fn fault(at: u32, field: ImageField) -> Option<ImageStop> {
+        Some(ImageStop::Bad(ImageFault { at, field }))
+    }
+
+    // The sample is written as it was read. With no turns its bytes are no image; 256 places don't fit into their count.
+    #[test]
+    fn writes_the_sample_as_it_was_read(rt: HostRuntime) -> Result<(), Fail> {
+        let mut bytes = FIRST_FRONT.to_vec(rt.alloc())?;
+        bytes.extend_from_slice(&ECHO)?;
+        bytes.extend_from_slice(&FIRST_BACK)?;
+        let (image, count) = read_image(rt.alloc(), &bytes).ok().ok_or("no image")?;
+        assert_eq!(rt; count, 290);
+        let written = write_image(rt.alloc(), &image).ok().ok_or("not written")?;
+        assert!(rt; written.as_slice() == bytes.as_slice());
+        let image = Image { turns: 0, ..image };
+        assert_eq!(rt;
+            write_image(rt.alloc(), &image).err(),
+            fault(6, ImageField::Turns)
+        );
+        let places = Bytes::from_vec(vec![in rt.alloc(); 0; 256]?);
+        let image = Image {
+            schedule: places,
+            ..image
+        };
+        assert_eq!(rt;
+            write_image(rt.alloc(), &image).err(),
+            fault(0, ImageField::Counts)
+        );
+        Ok(())
+    }
+}
