@@ -4,6 +4,7 @@ use Rattle.std.specs.Prelude.{All}
 use Rattle.std.proofs.lemmas.Bool.Decides.{nat_tests}
 use Rattle.std.proofs.lemmas.List.Elements.{All-head, All-tail}
 use Rattle.bk_level.specs.Levels.{Level}
+use Rattle.bk_path.specs.Paths.{IsPath}
 use Rattle.bk_object.specs.Kinds.{kind_number}
 use Rattle.bk_object.specs.Pairs.{split_pairs}
 use Rattle.bk_object.specs.Rows.{in_row}
@@ -15,7 +16,7 @@ use Rattle.bk_image.specs.Parts.{Rest, Reads, ◌>>=◌, first_failing, part, ch
 use Rattle.bk_image.specs.Numbers.{word, words_of}
 use Rattle.bk_image.specs.Objects.{kind_of, blocks_of, object_of, object_fails, words_checks, object_at}
 use Rattle.bk_image.specs.Spelling.{words_bytes, path_bytes, blocks_byte, kind_bytes, row_bytes, object_record, object_bytes}
-use Rattle.bk_image.specs.Writing.{blocks_fit, RowFits, ObjectFits}
+use Rattle.bk_image.specs.Writing.{blocks_fit}
 use Rattle.bk_image.proofs.Grown.{from}
 use Rattle.bk_image.proofs.Only.{Only, only_then, only_checked, only_done, part_only, checked_only, Rereads, word_back, words_again, words_count, path_again}
 
@@ -25,6 +26,11 @@ kind_again Directory blocks fit = (refl, refl)
 kind_again Segment blocks fit = (refl, refl)
 kind_again Mailbox blocks fit = (refl, refl)
 kind_again (Line n) blocks fit = (refl, grind (arith, nat_tests, fit))
+
+-- 32 sets of the four modes
+pub record RowFits (row : List Modes) : Type 0 where
+  pub whole : length row ≡ 32
+  pub sets : All (λ modes. modes.0 < 16) row
 
 -- the sets of a row by their places
 abbrev sets_from : ℕ → ℕ → List Modes → List Modes
@@ -75,18 +81,19 @@ row_again row fit =
     high : (k : ℕ) → (let m : Modes = record { 0 = ((in_row row k).0 + 16 * (in_row row (k + 1)).0) / 16 } in m) ≡ in_row row (k + 1)
     high k = high_set (in_row row k) (in_row row (k + 1)) (four_at row k fit.sets)
 
--- what is asked of an object: what its type has, and that a line has no blocks
+-- what is asked of an object for its spelling to be read as itself; a line has no blocks
 pub record ObjectIsSpelt (o : ObjectRec) : Type 0 where
-  pub fits : ObjectFits o
+  pub path : IsPath o.path
+  pub row : RowFits o.facts.row
   pub blocks : blocks_fit o.facts.kind o.facts.blocks ≡ true
 
 object_again : (o : ObjectRec) → ObjectIsSpelt o → object_of (object_record o) o.words ≡ o
 unfolding path_bytes kind_bytes row_bytes
 object_again o is =
-    let path = path_again o.path is.fits.path in
+    let path = path_again o.path is.path in
     let kind = kind_again o.facts.kind o.facts.blocks is.blocks in
     let quota = word_back o.facts.quota in
-    let row = row_again o.facts.row is.fits.row in
+    let row = row_again o.facts.row is.row in
     λ i. record o { path = path i; facts = record o.facts { kind = kind.0 i; blocks = kind.1 i; quota = quota i; row = row i } }
 
 pub object_only : (levels : List Level) (subjects lines : ℕ) (before : List ObjectRec) → Rereads ObjectIsSpelt object_bytes (object_at levels subjects lines before)

@@ -2,9 +2,12 @@
 //!
 //! Model: `specs/Parts.antt` (parts, places and faults), `specs/Header.antt`, `specs/Subjects.antt`, `specs/Objects.antt` and
 //! `specs/Holds.antt` (each kind of part, its checks in their order), `specs/Image.antt` (`image_of`: the image, or the first
-//! fault), `specs/Spelling.antt` (`spelling`), `specs/Accepted.antt` (`IsAccepted`). `specs/Views.antt` says what the code keeps.
-//! Calls: `read_image`; `ImageField::text`; `law_no_prefix`.
-//! Proved: `read_image` gives exactly the image that the first bytes spell and their number, or exactly the first fault and its place; each field has its text. Writing is still to come.
+//! fault), `specs/Spelling.antt` (`spelling`), `specs/Writing.antt` (`written`), `specs/Accepted.antt` (`IsAccepted`).
+//! `specs/Views.antt` says what the code keeps.
+//! Calls: `read_image`, `write_image`; `ImageField::text`; `law_no_prefix`.
+//! Proved: `read_image` gives exactly the image that the first bytes spell and their number, or exactly the first fault and
+//! its place; what is read passed all checks, and its state is secure; `write_image` gives exactly the spelling, or exactly
+//! why there is none; no image's bytes are a proper prefix of another's.
 //! Stands on: `bitflags`, `byteorder`, `bk_base`, `bk_level`, `bk_object`, `bk_path`, `bk_quota`, `bk_space`, `bk_state`.
 #![tactic(auto)]
 
@@ -34,3 +37,4 @@ pub use bk_state::{
 pub use fault::{ImageFault, ImageField, ImageStop};
 pub use laws::law_no_prefix;
 pub use reading::read_image;
+pub use writing::write_image;

@@ -1,10 +1,12 @@
 // The parts of an image as bytes, put at the end of those that stand already.
 
-ghost use Rattle.std.specs.Prelude.{◌≡◌, ◌++◌, ◌∷◌, [], ◌<◌, length, map, flat_map, OnOk, IsTrue};
+ghost use Rattle.std.specs.Prelude.{◌≡◌, ◌++◌, ◌∷◌, ◌+◌, ◌*◌, [], ◌<◌, ℕ, All, length, map, flat_map, OnOk, IsTrue};
 ghost use Rattle.std.specs.List.{range_with_len, list_all};
 ghost use Rattle.bk_object.specs.Kinds.{kind_number};
-ghost use Rattle.bk_image.specs.Spelling.{word_bytes, words_bytes, path_bytes, level_bytes, mode_number, window_bytes, subject_bytes, blocks_byte, kind_bytes, row_bytes, object_bytes, hold_bytes};
-ghost use Rattle.bk_image.specs.Writing.{windows_fit, object_fits};
+ghost use Rattle.bk_object.specs.Rows.{in_row};
+ghost use Rattle.bk_path.specs.Paths.{IsPath};
+ghost use Rattle.bk_image.specs.Spelling.{word_bytes, words_bytes, path_bytes, level_bytes, mode_number, window_bytes, subject_bytes, blocks_byte, kind_bytes, row_byte, row_bytes, object_bytes, hold_bytes};
+ghost use Rattle.bk_image.specs.Writing.{windows_fit, object_fits, LevelFits, WindowFits, SubjectFits, ObjectFits, HoldFits};
 
 use bitflags::Flags;
 use bk_level::{Level, LevelTable};
@@ -35,7 +37,8 @@ fn put_words(out: &mut Vec<u8>, words: &[u16]) -> Result<(), AllocError>
 
 #[tactic(auto, unfolding(crate::specs::Spelling::path_bytes))]
 fn put_path(out: &mut Vec<u8>, path: Path) -> Result<(), AllocError>
-    ensures { OnOk result (out.new.items ≡ out.old.items ++ path_bytes path) }
+    ensures text { OnOk result (out.new.items ≡ out.old.items ++ path_bytes path) }
+    ensures fits { IsPath path }
 {
     let (first, second) = path.pack();
     put_word(out, first)?;
@@ -52,13 +55,15 @@ fn put_class(out: &mut Vec<u8>, class: u8, mask: u16) -> Result<(), AllocError>
 }
 
 fn put_level(out: &mut Vec<u8>, level: Level) -> Result<(), AllocError>
-    ensures { OnOk result (out.new.items ≡ out.old.items ++ level_bytes level) }
+    ensures text { OnOk result (out.new.items ≡ out.old.items ++ level_bytes level) }
+    ensures fits { LevelFits level }
 {
     put_class(out, level.class, level.cats)
 }
 
 pub(crate) fn put_levels(out: &mut Vec<u8>, levels: &LevelTable) -> Result<(), AllocError>
-    ensures { OnOk result (out.new.items ≡ out.old.items ++ flat_map level_bytes levels.now) }
+    ensures text { OnOk result (out.new.items ≡ out.old.items ++ flat_map level_bytes levels.now) }
+    ensures fits { OnOk result (All LevelFits levels.now) }
 {
     for n in 0..levels.len() {
         put_level(out, levels.get(n).unwrap())?;
@@ -76,7 +81,8 @@ fn mode_number(mode: Mode) -> u8
 }
 
 fn put_windows(out: &mut Vec<u8>, windows: &[WindowRec]) -> Result<(), AllocError>
-    ensures { OnOk result (out.new.items ≡ out.old.items ++ flat_map window_bytes windows.now) }
+    ensures text { OnOk result (out.new.items ≡ out.old.items ++ flat_map window_bytes windows.now) }
+    ensures fits { OnOk result (All WindowFits windows.now) }
 {
     for window in windows {
         out.push(window.index)?;
@@ -87,7 +93,8 @@ fn put_windows(out: &mut Vec<u8>, windows: &[WindowRec]) -> Result<(), AllocErro
 
 fn put_subject(out: &mut Vec<u8>, s: &SubjectRec) -> Result<(), AllocError>
     requires { IsTrue (windows_fit s.now) }
-    ensures { OnOk result (out.new.items ≡ out.old.items ++ subject_bytes s.now) }
+    ensures text { OnOk result (out.new.items ≡ out.old.items ++ subject_bytes s.now) }
+    ensures fits { OnOk result (SubjectFits s.now) }
 {
     let windows = s.windows.as_slice();
     out.push(s.f_s)?;
@@ -105,7 +112,8 @@ fn put_subject(out: &mut Vec<u8>, s: &SubjectRec) -> Result<(), AllocError>
 
 pub(crate) fn put_subjects(out: &mut Vec<u8>, subjects: &[SubjectRec]) -> Result<(), AllocError>
     requires { IsTrue (list_all windows_fit subjects.now) }
-    ensures { OnOk result (out.new.items ≡ out.old.items ++ flat_map subject_bytes subjects.now) }
+    ensures text { OnOk result (out.new.items ≡ out.old.items ++ flat_map subject_bytes subjects.now) }
+    ensures fits { OnOk result (All SubjectFits subjects.now) }
 {
     for s in subjects {
         put_subject(out, s)?;
@@ -134,15 +142,25 @@ fn blocks_byte(kind: Kind, blocks: u8) -> u8
     }
 }
 
-// Two subjects in each byte, the lower one in its low half.
+// A byte of a row: two subjects, the lower one in its low half.
+fn row_byte(row: &Row, place: u8) -> u8
+    requires { place < 16 }
+    ensures value { result ≡ row_byte row.now place }
+    ensures low { (in_row row.now (2 * place)).0 < 16 }
+    ensures high { (in_row row.now (2 * place + 1)).0 < 16 }
+{
+    let low = row.get(2 * place);
+    let high = row.get(2 * place + 1);
+    low.bits() + 16 * high.bits()
+}
+
 #[tactic(auto, unfolding(crate::specs::Spelling::row_bytes))]
 fn put_row(out: &mut Vec<u8>, row: &Row) -> Result<(), AllocError>
-    ensures { OnOk result (out.new.items ≡ out.old.items ++ row_bytes row.now) }
+    ensures text { OnOk result (out.new.items ≡ out.old.items ++ row_bytes row.now) }
+    ensures fits { OnOk result ((subject : ℕ) → subject < 32 → (in_row row.now subject).0 < 16) }
 {
     for place in 0..16u8 {
-        let low = row.get(2 * place);
-        let high = row.get(2 * place + 1);
-        out.push(low.bits() + 16 * high.bits())?;
+        out.push(row_byte(row, place))?;
     }
     Ok(())
 }
@@ -162,7 +180,8 @@ fn put_kind(out: &mut Vec<u8>, facts: &Facts) -> Result<(), AllocError>
 #[tactic(auto, unfolding(crate::specs::Spelling::object_bytes))]
 fn put_object(out: &mut Vec<u8>, o: &ObjectRec) -> Result<(), AllocError>
     requires { IsTrue (object_fits o.now) }
-    ensures { OnOk result (out.new.items ≡ out.old.items ++ object_bytes o.now) }
+    ensures text { OnOk result (out.new.items ≡ out.old.items ++ object_bytes o.now) }
+    ensures fits { OnOk result (ObjectFits o.now) }
 {
     let words = o.words.as_slice();
     put_path(out, o.path)?;
@@ -175,7 +194,8 @@ fn put_object(out: &mut Vec<u8>, o: &ObjectRec) -> Result<(), AllocError>
 
 pub(crate) fn put_objects(out: &mut Vec<u8>, objects: &[ObjectRec]) -> Result<(), AllocError>
     requires { IsTrue (list_all object_fits objects.now) }
-    ensures { OnOk result (out.new.items ≡ out.old.items ++ flat_map object_bytes objects.now) }
+    ensures text { OnOk result (out.new.items ≡ out.old.items ++ flat_map object_bytes objects.now) }
+    ensures fits { OnOk result (All ObjectFits objects.now) }
 {
     for o in objects {
         put_object(out, o)?;
@@ -184,7 +204,8 @@ pub(crate) fn put_objects(out: &mut Vec<u8>, objects: &[ObjectRec]) -> Result<()
 }
 
 pub(crate) fn put_holds(out: &mut Vec<u8>, holds: &[Hold]) -> Result<(), AllocError>
-    ensures { OnOk result (out.new.items ≡ out.old.items ++ flat_map hold_bytes holds.now) }
+    ensures text { OnOk result (out.new.items ≡ out.old.items ++ flat_map hold_bytes holds.now) }
+    ensures fits { OnOk result (All HoldFits holds.now) }
 {
     for hold in holds {
         out.push(hold.subject)?;

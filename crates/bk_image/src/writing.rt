@@ -1,11 +1,16 @@
 // Writing an image: its fields have to hold the value, and its bytes have to be an image.
 
-ghost use Rattle.std.specs.Prelude.{◌≡◌, ◌++◌, ◌∷◌, [], OnOk, IfOk, IsTrue};
+ghost use Rattle.std.specs.Prelude.{◌≡◌, ◌++◌, ◌∷◌, [], ℕ, List, length, Ok, OnOk, IfOk, IsTrue};
 ghost use Rattle.std.specs.List.{list_all};
+ghost use Rattle.bk_image.specs.Parts.{Gives};
+ghost use Rattle.bk_image.specs.Image.{image_of};
 ghost use Rattle.bk_image.specs.Spelling.{word_bytes, header_bytes, header_of, spelling};
-ghost use Rattle.bk_image.specs.Writing.{windows_fit, blocks_fit, object_fits, counts_fit};
+ghost use Rattle.bk_image.specs.Writing.{windows_fit, blocks_fit, object_fits, counts_fit, Fits, as_read, written};
 
+use crate::fault::{ImageField, ImageStop};
+use crate::part::bad;
 use crate::put::{put_holds, put_levels, put_objects, put_subjects, put_word};
+use crate::reading::read_image;
 use bk_object::Kind;
 use bk_state::{Image, ObjectRec, SubjectRec};
 use std::alloc::{AllocError, Global};
@@ -106,7 +111,8 @@ fn put_header(out: &mut Vec<u8>, image: &Image) -> Result<(), AllocError>
 #[tactic(auto, unfolding(crate::specs::Spelling::spelling))]
 fn spell(alloc: Global, image: &Image) -> Result<Vec<u8>, AllocError>
     requires { IsTrue (counts_fit image.now) }
-    ensures { IfOk result (λ bytes. bytes.items ≡ spelling image.now) }
+    ensures text { IfOk result (λ bytes. bytes.items ≡ spelling image.now) }
+    ensures fits { IfOk result (λ bytes. Fits image.now) }
 {
     let mut out = Vec::new(alloc);
     put_header(&mut out, image)?;
@@ -116,4 +122,31 @@ fn spell(alloc: Global, image: &Image) -> Result<Vec<u8>, AllocError>
     put_objects(&mut out, image.objects.as_slice())?;
     put_holds(&mut out, image.holds.as_slice())?;
     Ok(out)
+}
+
+// The bytes, once they have been read.
+#[tactic(auto, unfolding(crate::specs::Writing::written))]
+fn checked_bytes(alloc: Global, image: &Image) -> Result<Vec<u8>, ImageStop>
+    ensures exact { Gives (λ bytes. bytes.items) result (written image.now) }
+    ensures fits { IfOk result (λ bytes. Fits image.now) }
+{
+    if !counts_fit(image) {
+        return Err(bad(0, ImageField::Counts));
+    }
+    let bytes = spell(alloc, image)?;
+    read_image(alloc, &bytes)?;
+    Ok(bytes)
+}
+
+/// The bytes of an image: its one spelling.
+///
+/// `Bad` is `counts` at 0 where the fields of the format can't hold the value: a count has more to count than it can hold, or
+/// a line has blocks. Otherwise it is the first fault of the bytes, where they are no image. The format is this project's own.
+pub fn write_image(alloc: Global, image: &Image) -> Result<Vec<u8>, ImageStop>
+    // What is written, or why there is nothing to write.
+    ensures exact { Gives (λ bytes. bytes.items) result (written image.now) }
+    // What is written is read again as the image, whatever follows it.
+    ensures again { IfOk result (λ bytes. (more : List ℕ) → image_of (bytes.items ++ more) ≡ Ok (as_read image.now, length bytes.items)) }
+{
+    checked_bytes(alloc, image)
 }

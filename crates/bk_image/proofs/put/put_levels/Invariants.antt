@@ -1,7 +1,11 @@
 use Rattle.std.proofs.Common.{◌≡◌, ◌++◌, take}
-use Rattle.std.specs.Prelude.{flat_map}
+use Rattle.std.specs.Prelude.{All, flat_map}
 use Rattle.bk_image.specs.Spelling.{level_bytes}
+use Rattle.bk_image.specs.Writing.{LevelFits}
 use Rattle.bk_image.proofs.put.put_levels.Given as goal
 
 abbrev pub invariant-loop-n : goal.invariant-loop-n
-invariant-loop-n l = l.out.items ≡ l.fn.out.items ++ flat_map level_bytes (take l.n l.levels)
+invariant-loop-n l = record {
+  text : l.out.items ≡ l.fn.out.items ++ flat_map level_bytes (take l.n l.levels);
+  fits : All LevelFits (take l.n l.levels);
+}
