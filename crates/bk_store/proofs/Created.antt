@@ -1,6 +1,6 @@
 -- What is so once an object is created.
-use Rattle.std.proofs.Common.{List, ◌≡◌, ◌≢◌, ℕ, ◌+◌, ◌-◌, ◌*◌, ◌<◌, ◌≤◌, Bool, true, false, cond, not, ◌&&◌, ◌==◌, [], length, length-set, Option, Some, None, refl, sym, ap, subst, ◌∙◌, arith, is_some, is_eq, Result, Err, ◌↔◌}
-use Rattle.std.specs.Prelude.{option_map, unwrap_or, replicate, slice_set, slice_index_or}
+use Rattle.std.proofs.Common.{List, ◌≡◌, ◌≢◌, ℕ, ◌+◌, ◌<◌, ◌≤◌, Bool, true, false, cond, ◌&&◌, [], length, length-set, Option, Some, None, refl, sym, ap, subst, ◌∙◌, arith, is_some, is_eq, Result, Err, ◌↔◌}
+use Rattle.std.specs.Prelude.{option_map, unwrap_or, slice_set, slice_index_or}
 use Rattle.std.specs.Ordering.{nat_cmp, eq_by_cmp}
 use Rattle.std.specs.Cmp.{nat_cmp_total, tied_itself}
 use Rattle.std.specs.FinMap as finite
@@ -10,22 +10,22 @@ use Rattle.bk_level.specs.Levels.{Level}
 use Rattle.bk_object.specs.declared.Facts.{Facts}
 use Rattle.bk_object.specs.declared.kind.Kind.{Kind}
 use Rattle.bk_object.specs.declared.kind.Kind.TheVariants.{Directory, Segment, Mailbox, Line}
-use Rattle.bk_object.specs.Modes.{Mode, has, no_modes}
+use Rattle.bk_object.specs.Modes.{has}
 use Rattle.bk_path.specs.Paths.{Path, path_cmp, is_same}
 use Rattle.bk_path.specs.Orders.{path_total, path_apart, same_path, is_same-itself, ties-same}
 use Rattle.bk_quota.specs.Charges.{passes, quota_in}
-use Rattle.bk_access.specs.Held.{Held, holds, modes_at}
+use Rattle.bk_access.specs.Held.{Held, holds}
 use Rattle.bk_frames.specs.Extents.{Extent, Standing, KeepsRoom, IsApart, free_in, segments_of, sizes_of, taken_in, words_at}
 use Rattle.bk_frames.proofs.MapValues.{get-map_values, total-map_values}
 use Rattle.bk_frames.proofs.Entries.{same_number}
 use Rattle.bk_state.specs.Changes.{new_contents}
-use Rattle.bk_state.specs.State.{Triple, Object, Contents, Words}
+use Rattle.bk_state.specs.State.{Triple, Contents, Words}
 use Rattle.bk_state.proofs.Orders.{triple_total}
 use Rattle.bk_tree.specs.declared.place.Placed.{Placed}
 use Rattle.bk_tree.specs.Objects.{Objects, IsAt, facts_of}
-use Rattle.bk_tree.proofs.Totals.{part, total_of, total-insert}
-use Rattle.bk_store.specs.Stored.{Queue, OfMailbox, OfLine, Entry, Stored, Fits, IsCreated, IsFreeLine, contents_in, fresh, objects_of, waiting_in}
-use Rattle.bk_store.specs.Joined.{Tables, slot_in, is_held, access_of, entries_of, entry_of, new_words, no_mail, or_zero, queue_at, segment_blocks, size_of, store_of, with_new_input, with_some, HasExtents, HasQueues, HasSlots, IsStore}
+use Rattle.bk_tree.proofs.Totals.{total_of, total-insert}
+use Rattle.bk_store.specs.Stored.{Queue, OfMailbox, OfLine, Stored, Fits, IsCreated, IsFreeLine, contents_in, fresh, objects_of, waiting_in}
+use Rattle.bk_store.specs.Joined.{Tables, slot_in, is_held, access_of, entries_of, entry_of, new_words, no_mail, or_zero, queue_at, segment_blocks, size_of, store_of, with_new_input, with_some, HasExtents, HasSlots, IsStore}
 use Rattle.bk_store.proofs.Triples.{in_range, member, triple_apart}
 use Rattle.bk_store.proofs.Entries.{get-entry, some_same}
 use Rattle.bk_tree.specs.Kept.{Fits as FitsTree}

@@ -1,7 +1,7 @@
 -- Sums over maps from which a key is gone.
-use Rattle.std.proofs.Common.{◌≡◌, ◌≢◌, ℕ, ◌+◌, Bool, true, false, cond, not, ◌==◌, List, Option, Some, None, refl, sym, ap, ◌∙◌, arith, is_eq, Ordering, Less, Equal, Greater}
-use Rattle.std.specs.Ordering.{nat_cmp, eq_by_cmp}
-use Rattle.std.specs.Cmp.{IsTotalOrder, nat_cmp_total, tied_itself, unsigned_tied}
+use Rattle.std.proofs.Common.{◌≡◌, ℕ, ◌+◌, Bool, true, false, cond, not, Option, Some, None, refl, sym, ap, ◌∙◌, arith, is_eq, Ordering, Less, Equal, Greater}
+use Rattle.std.specs.Ordering.{eq_by_cmp}
+use Rattle.std.specs.Cmp.{IsTotalOrder, tied_itself}
 use Rattle.std.specs.FinMap.{FinMap, IsAntisymmetric, get, insert, get-insert, retain_keys, get-retain_keys, same_map, entries}
 use Rattle.bk_tree.proofs.Totals.{part, total_of, total-insert}
 

@@ -1,5 +1,5 @@
 -- That the test meets the conditions of the calls: root stays a directory.
-use Rattle.std.proofs.Common.{◌≡◌, ℕ, ◌*◌, ◌<◌, Bool, true, false, ◌&&◌, is_some, arith, refl, cond, List, [], ◌∷◌, Option, Some, None, Result, Ok, sym, ap, ◌∙◌, subst, is_eq}
+use Rattle.std.proofs.Common.{◌≡◌, ℕ, ◌<◌, Bool, true, false, cond, List, [], ◌∷◌, Option, Some, None, Result, Ok, sym, ap, ◌∙◌, subst, is_eq}
 use Rattle.std.specs.Prelude.{IfOk}
 use Rattle.std.specs.Cmp.{tied_itself}
 use Rattle.std.specs.FinMap.{get, get-insert, get-from_entries}
@@ -11,13 +11,11 @@ use Rattle.bk_path.specs.Paths.{Path, path_cmp}
 use Rattle.std.specs.Ordering.{eq_by_cmp}
 use Rattle.bk_path.specs.Orders.{path_total}
 use Rattle.bk_quota.specs.Charges.{passes}
-use Rattle.bk_store.specs.Stored.{Stored, Entry, NoQueue, HasDirectory, HasKind, HasOffset, IsFreeLine, IsThere, begun, facts_in, is_any_line, is_segment, level_number, changed_at, changed_by, with_row, with_given, with_rescinded, without_held}
+use Rattle.bk_store.specs.Stored.{Stored, Entry, NoQueue, HasDirectory, IsFreeLine, IsThere, begun, changed_at, changed_by, with_row, with_given, with_rescinded, without_held}
 use Rattle.bk_object.specs.Rows.{given, rescinded}
 use Rattle.bk_store.proofs.Entries.{some_same, there as is_there}
-use Rattle.std.specs.Prelude.{option_map, unwrap_or, nat_lt}
-use Rattle.std.proofs.lemmas.Bool.Decides.{nat_tests}
 use Rattle.bk_object.specs.declared.kind.Kind.{Kind}
-use Rattle.bk_object.specs.declared.kind.Kind.TheVariants.{Directory, Segment, Mailbox, Line}
+use Rattle.bk_object.specs.declared.kind.Kind.TheVariants.{Line}
 
 -- root is there at first
 pub root_begun : {E : Type 0} (levels : List Level) (lines : ℕ) (root : Facts) (r : Result Stored E) (v : Stored) (path : Path) →

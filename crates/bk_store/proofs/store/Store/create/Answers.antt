@@ -1,6 +1,5 @@
-use Rattle.std.proofs.Common.{◌≡◌, ◌≢◌, ◌∙◌, ◌+◌, ◌*◌, ◌<◌, ◌≤◌, ℕ, true, [], refl, sym, ap, subst, is_some, arith, length, map, take, Some}
-use Rattle.std.specs.Prelude.{option_map}
-use Rattle.std.specs.FinMap.{entries, get, insert}
+use Rattle.std.proofs.Common.{◌≡◌, ◌∙◌, ◌*◌, sym, ap, subst, is_some, arith, take}
+use Rattle.std.specs.FinMap.{get, insert}
 use Rattle.std.proofs.lemmas.List.{length-map}
 use Rattle.bk_path.specs.Paths.{parent}
 use Rattle.bk_quota.specs.Charges.{passes}

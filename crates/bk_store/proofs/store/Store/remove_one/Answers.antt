@@ -1,4 +1,4 @@
-use Rattle.std.proofs.Common.{◌∙◌, sym, ap, subst, is_some, refl, map}
+use Rattle.std.proofs.Common.{◌∙◌, sym, ap, subst, is_some, refl}
 use Rattle.std.specs.Prelude.{option_map}
 use Rattle.std.specs.FinMap.{get}
 use Rattle.bk_tree.specs.Objects.{without}
