@@ -8,6 +8,7 @@
 //! `bk_state`, `bk_store`.
 #![tactic(auto)]
 
+mod asking;
 mod caller;
 mod reply;
 
