@@ -8,7 +8,10 @@
 //! `bk_state`, `bk_store`.
 #![tactic(auto)]
 
+mod answering;
 mod caller;
+mod causes;
+mod process;
 mod reply;
 
 pub use caller::Caller;
