@@ -8,8 +8,11 @@
 //! `bk_state`, `bk_store`.
 #![tactic(auto)]
 
+mod answering;
 mod asking;
 mod caller;
+mod causes;
+mod process;
 mod reply;
 
 pub use caller::Caller;
