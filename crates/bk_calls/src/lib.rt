@@ -12,8 +12,10 @@ mod answering;
 mod asking;
 mod caller;
 mod causes;
+mod facts;
 mod process;
 mod reply;
+mod rules;
 
 pub use caller::Caller;
 pub use reply::{Answer, LineByte, Reply};
