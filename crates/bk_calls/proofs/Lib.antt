@@ -1,2 +1,4 @@
 pub mod Seen
 pub mod HeldBits
+pub mod Reaching
+pub mod Serving

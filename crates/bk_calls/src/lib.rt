@@ -13,7 +13,9 @@ mod asking;
 mod caller;
 mod causes;
 mod process;
+mod reach;
 mod reply;
+mod windows;
 
 pub use caller::Caller;
 pub use reply::{Answer, LineByte, Reply};
