@@ -1,3 +1,5 @@
 pub mod Seen
 pub mod HeldBits
 pub mod RuleChecks
+pub mod Reaching
+pub mod Serving

@@ -13,9 +13,12 @@ mod asking;
 mod caller;
 mod causes;
 mod facts;
+mod new_object;
 mod process;
+mod reach;
 mod reply;
 mod rules;
+mod windows;
 
 pub use caller::Caller;
 pub use reply::{Answer, LineByte, Reply};
