@@ -3,3 +3,4 @@ pub mod HeldBits
 pub mod RuleChecks
 pub mod Reaching
 pub mod Serving
+pub mod RuleChanges

@@ -35,7 +35,7 @@ refusal_by false true later = Some BadArgument
 refusal_by false false later = later
 
 module _ (v : State) (s : ℕ) (general : List ℕ) where
-  abbrev no_path : Bool
+  abbrev pub no_path : Bool
   no_path = is_none (unpack (slice_index general 1) (slice_index general 2))
 
   -- a rule without arguments has none out of their bounds

@@ -1,21 +1,124 @@
 // The calls of the nine rules.
 
-ghost use Rattle.std.specs.Prelude.{◌≡◌, ◌<◌, ◌≤◌, ℕ, List, length, slice_index};
-ghost use Rattle.bk_rules.specs.Decisions.{answer_for};
+ghost use Rattle.std.specs.Prelude.{◌≡◌, ◌<◌, ◌≤◌, ℕ, List, IsTrue, length, slice_index};
+ghost use Rattle.bk_rules.specs.Decisions.{answer_for, is_get};
 ghost use Rattle.bk_state.specs.Calls as model;
-ghost use Rattle.bk_state.specs.Checks.{refusal};
+ghost use Rattle.bk_state.specs.Checks.{modes_of, refusal};
 ghost use Rattle.bk_calls.specs.Decided.{Allows};
-ghost use Rattle.bk_calls.specs.Made.{seen_by};
+ghost use Rattle.bk_calls.specs.Made.{made_by, seen_by, IsMade};
 
+use crate::answering::{agree, refuse};
 use crate::asking::{modes_of, path_of};
 use crate::caller::Caller;
 use crate::causes::{BAD_ARGUMENT, NO_PATH};
 use crate::facts::facts_there;
 use crate::new_object::{facts_of_new, has_level, is_no_object};
+use crate::reply::Reply;
+use bk_object::Modes;
 use bk_path::Path;
 use bk_process::Process;
 use bk_rules::{Decision, Rule, decide};
+use bk_state::Call;
 use bk_store::Store;
+
+// The caller comes to hold the object by the rule's mode.
+pub(crate) fn get(store: &mut Store, process: &mut Process, caller: &Caller, rule: Rule) -> Reply
+    requires get { IsTrue (is_get rule) }
+    requires subject { caller.now.subject < caller.now.subjects }
+    requires subjects { caller.now.subjects ≤ 32 }
+    requires greatest { caller.now.f_s < length store.old.levels }
+    requires current { caller.now.f_c < length store.old.levels }
+    ensures { (words : List ℕ) → IsMade store.old store.new words words process.new result (made_by caller.now store.old words process.old (Call.ByRule rule)) }
+{
+    match allowed(store, process, caller, rule) {
+        Err(cause) => refuse(process, cause),
+        Ok(path) => {
+            store.hold(caller.subject, path, mode_of(rule));
+            agree(process, &[0, 0])
+        }
+    }
+}
+
+// The caller no longer holds the object by the modes in R3.
+pub(crate) fn release(store: &mut Store, process: &mut Process, caller: &Caller) -> Reply
+    requires subject { caller.now.subject < caller.now.subjects }
+    requires subjects { caller.now.subjects ≤ 32 }
+    requires greatest { caller.now.f_s < length store.old.levels }
+    requires current { caller.now.f_c < length store.old.levels }
+    ensures { (words : List ℕ) → IsMade store.old store.new words words process.new result (made_by caller.now store.old words process.old (Call.ByRule Rule.Release)) }
+{
+    match allowed(store, process, caller, Rule::Release) {
+        Err(cause) => refuse(process, cause),
+        Ok(path) => {
+            store.release(caller.subject, path, modes_of(process));
+            agree(process, &[0, 0])
+        }
+    }
+}
+
+// The object grants the modes in R3 to the subject in R4 too.
+pub(crate) fn give(store: &mut Store, process: &mut Process, caller: &Caller) -> Reply
+    requires subject { caller.now.subject < caller.now.subjects }
+    requires subjects { caller.now.subjects ≤ 32 }
+    requires greatest { caller.now.f_s < length store.old.levels }
+    requires current { caller.now.f_c < length store.old.levels }
+    ensures { (words : List ℕ) → IsMade store.old store.new words words process.new result (made_by caller.now store.old words process.old (Call.ByRule Rule.Give)) }
+{
+    match allowed(store, process, caller, Rule::Give) {
+        Err(cause) => refuse(process, cause),
+        Ok(path) => {
+            store.give(path, process.registers.general[4] as u8, modes_of(process));
+            agree(process, &[0, 0])
+        }
+    }
+}
+
+// The object no longer grants the modes in R3 to the subject in R4, who no longer holds it by them.
+pub(crate) fn rescind(store: &mut Store, process: &mut Process, caller: &Caller) -> Reply
+    requires subject { caller.now.subject < caller.now.subjects }
+    requires subjects { caller.now.subjects ≤ 32 }
+    requires greatest { caller.now.f_s < length store.old.levels }
+    requires current { caller.now.f_c < length store.old.levels }
+    ensures { (words : List ℕ) → IsMade store.old store.new words words process.new result (made_by caller.now store.old words process.old (Call.ByRule Rule.Rescind)) }
+{
+    match allowed(store, process, caller, Rule::Rescind) {
+        Err(cause) => refuse(process, cause),
+        Ok(path) => {
+            store.rescind(path, process.registers.general[4] as u8, modes_of(process));
+            agree(process, &[0, 0])
+        }
+    }
+}
+
+// The object and all its inferiors go.
+pub(crate) fn delete_group(store: &mut Store, process: &mut Process, caller: &Caller) -> Reply
+    requires subject { caller.now.subject < caller.now.subjects }
+    requires subjects { caller.now.subjects ≤ 32 }
+    requires greatest { caller.now.f_s < length store.old.levels }
+    requires current { caller.now.f_c < length store.old.levels }
+    ensures { (words : List ℕ) → IsMade store.old store.new words words process.new result (made_by caller.now store.old words process.old (Call.ByRule Rule.DeleteGroup)) }
+{
+    match allowed(store, process, caller, Rule::DeleteGroup) {
+        Err(cause) => refuse(process, cause),
+        Ok(path) => {
+            store.delete_group(path);
+            agree(process, &[0, 0])
+        }
+    }
+}
+
+// The mode that one of the four rules asks for.
+fn mode_of(rule: Rule) -> Modes
+    requires { IsTrue (is_get rule) }
+    ensures { (given : Modes) → result ≡ modes_of rule given }
+{
+    match rule {
+        Rule::GetAppend => Modes::A,
+        Rule::GetExecute => Modes::E,
+        Rule::GetWrite => Modes::W,
+        _ => Modes::R,
+    }
+}
 
 // The path of the object where the rule answers yes; else the number of the cause.
 fn allowed(store: &Store, process: &Process, caller: &Caller, rule: Rule) -> Result<Path, u8>
