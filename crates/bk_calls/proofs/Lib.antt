@@ -4,3 +4,4 @@ pub mod RuleChecks
 pub mod Reaching
 pub mod Serving
 pub mod RuleChanges
+pub mod NewObjects

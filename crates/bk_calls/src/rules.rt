@@ -11,9 +11,10 @@ use crate::answering::{agree, refuse};
 use crate::asking::{modes_of, path_of};
 use crate::caller::Caller;
 use crate::causes::{BAD_ARGUMENT, NO_PATH};
-use crate::facts::facts_there;
-use crate::new_object::{facts_of_new, has_level, is_no_object};
+use crate::facts::{facts_there, parent_of};
+use crate::new_object::{facts_of_new, has_level, is_no_object, level_number, new_facts};
 use crate::reply::Reply;
+use bk_core::Core;
 use bk_object::Modes;
 use bk_path::Path;
 use bk_process::Process;
@@ -102,6 +103,30 @@ pub(crate) fn delete_group(store: &mut Store, process: &mut Process, caller: &Ca
         Err(cause) => refuse(process, cause),
         Ok(path) => {
             store.delete_group(path);
+            agree(process, &[0, 0])
+        }
+    }
+}
+
+// A new object is at the path, below a directory.
+pub(crate) fn create(
+    store: &mut Store,
+    core: &mut Core,
+    process: &mut Process,
+    caller: &Caller,
+) -> Reply
+    requires subject { caller.now.subject < caller.now.subjects }
+    requires subjects { caller.now.subjects ≤ 32 }
+    requires greatest { caller.now.f_s < length store.old.levels }
+    requires current { caller.now.f_c < length store.old.levels }
+    ensures { IsMade store.old store.new core.old.words core.new.words process.new result (made_by caller.now store.old core.old.words process.old (Call.ByRule Rule.Create)) }
+{
+    match allowed(store, process, caller, Rule::Create) {
+        Err(cause) => refuse(process, cause),
+        Ok(path) => {
+            store.law_levels();
+            let facts = new_facts(process, level_number(store, parent_of(path)));
+            store.create(core, path, facts).unwrap();
             agree(process, &[0, 0])
         }
     }
