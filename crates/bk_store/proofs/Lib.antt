@@ -10,3 +10,6 @@ pub mod Contents
 pub mod Written
 pub mod Lists
 pub mod Stands
+pub mod Sums
+pub mod Deleted
+pub mod Created

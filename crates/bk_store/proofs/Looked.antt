@@ -52,7 +52,7 @@ none_and : (r : Bool) → (r && false) ≡ false
 none_and true = refl
 none_and false = refl
 
-has-none : (x : Mode) → has no_modes x ≡ false
+pub has-none : (x : Mode) → has no_modes x ≡ false
 has-none Read = refl
 has-none Execute = refl
 has-none Write = refl

@@ -1,23 +1,27 @@
 -- A store stands for a state, and each change of the store for that change of the state.
-use Rattle.std.proofs.Common.{◌≡◌, ℕ, Bool, true, false, cond, ◌||◌, List, [], ◌∷◌, Option, Some, None, refl, sym, ap, subst, ◌∙◌}
+use Rattle.std.proofs.Common.{◌≡◌, ℕ, Bool, true, false, cond, not, ◌||◌, List, [], ◌∷◌, Option, Some, None, refl, sym, ap, subst, ◌∙◌}
 use Rattle.std.specs.Prelude.{option_map, if◌then◌else◌}
 use Rattle.std.specs.Ordering.{eq_by_cmp}
 use Rattle.std.specs.FinMap as finite
 use Rattle.std.specs.FinSet as set
 use Rattle.bk_object.specs.declared.modes.Modes.{Modes}
 use Rattle.bk_object.specs.Modes.{Mode, Read, Execute, Write, Append, mode_number}
+use Rattle.bk_object.specs.declared.Facts.{Facts}
 use Rattle.bk_object.specs.Rows.{given, rescinded}
-use Rattle.bk_path.specs.Paths.{Path, path_cmp}
+use Rattle.bk_path.specs.Paths.{Path, path_cmp, is_inferior}
 use Rattle.bk_path.specs.Orders.{path_total, path_apart}
 use Rattle.bk_frames.specs.Extents.{Extent}
 use Rattle.bk_state.specs.Maps.{map_values}
 use Rattle.bk_state.specs.Start.{is_line}
-use Rattle.bk_state.specs.State.{State, triple_cmp, Object, Contents, Words, find}
-use Rattle.bk_state.specs.Changes.{changed_at as state_changed_at, changed_by as state_changed_by, with_row as with_state_row, with_triple, without_triples}
+use Rattle.bk_state.specs.State.{State, facts_at, triple_cmp, Object, Contents, Words, find}
+use Rattle.bk_quota.specs.Charges.{level_in}
+use Rattle.bk_state.specs.Quota.{governing, quota_at, used, level_number as state_level_number}
+use Rattle.bk_state.specs.Changes.{without_group as without_state_group, changed_at as state_changed_at, changed_by as state_changed_by, with_row as with_state_row, with_triple, without_triples}
 use Rattle.bk_state.proofs.MapsKept.{get-map_values}
 use Rattle.bk_state.proofs.Orders.{triple_total}
-use Rattle.bk_store.specs.Stored.{Entry, Queue, Stored, changed_at, changed_by, contents_in, kept, object_of, objects_of, triples_of, typing, waiting_in, with_given, with_held, with_input, with_queue, with_rescinded, with_row, with_typed, without_held}
+use Rattle.bk_store.specs.Stored.{Entry, Queue, Stored, IsCreated, cell_of, changed_at, changed_by, contents_in, facts_in, fresh, kept, level_number, object_of, objects_of, triples_of, typing, waiting_in, with_given, with_held, with_input, with_queue, with_rescinded, with_row, with_typed, without_group, without_held, written}
 use Rattle.bk_store.specs.Stands.{StandsFor}
+use Rattle.bk_store.proofs.Cells.{facts-same, level-same, usage-same, usage_in}
 use Rattle.bk_store.proofs.Triples.{triple_apart}
 
 -- an object of the line becomes another in its contents
@@ -132,6 +136,57 @@ module _ (v : Stored) (words : List ℕ) (s : State) (stands : StandsFor v words
           ∙ ap (option_map (object_of words)) (get-map_values path_cmp (typing line byte) v.objects q)
           ∙ by (finite.get v.objects q)
           ∙ sym (get-map_values path_cmp (taking line becomes) (objects_of v words) q ∙ ap (option_map (taking line becomes)) (get-objects_of v words q)))
+
+  -- the object and its inferiors go
+  pub stands-deleted : (path : Path) → StandsFor (without_group path v) words (without_state_group s path)
+  stands-deleted path = record {
+    levels = stands.levels;
+    lines = stands.lines;
+    objects = each ∙ ap (λ (m : finite.FinMap path_cmp Object). finite.retain_keys m (λ other. not (is_inferior other path))) stands.objects;
+    access = λ i. set.retain (stands.access i) (λ t. not (is_inferior t.1 path));
+  }
+    where
+      kept_keys : {X : Type 0} (m : finite.FinMap path_cmp X) (q : Path) → finite.get (finite.retain_keys m (λ other. not (is_inferior other path))) q ≡ cond (not (is_inferior q path)) (finite.get m q) None
+      kept_keys m q = finite.get-retain_keys m (λ other. not (is_inferior other path)) q (λ x same. ap (λ other. not (is_inferior other path)) (sym (path_apart q x same)))
+
+      by : (b : Bool) (o : Option Entry) → option_map (object_of words) (cond b o None) ≡ cond b (option_map (object_of words) o) None
+      by true o = refl
+      by false o = refl
+
+      each : objects_of (without_group path v) words ≡ finite.retain_keys (objects_of v words) (λ other. not (is_inferior other path))
+      each = finite.same_map path_total path_apart _ _ (λ q.
+          get-map_values path_cmp (object_of words) (finite.retain_keys v.objects (λ other. not (is_inferior other path))) q
+          ∙ ap (option_map (object_of words)) (kept_keys v.objects q)
+          ∙ by (not (is_inferior q path)) (finite.get v.objects q)
+          ∙ sym (kept_keys (objects_of v words) q ∙ ap (λ o. cond (not (is_inferior q path)) o None) (get-objects_of v words q)))
+
+  -- a new object comes
+  pub stands-created : (new : Stored) (now : List ℕ) (path : Path) (facts : Facts) → IsCreated v new words now path facts → StandsFor new now (record s { objects = finite.insert s.objects path (fresh facts) })
+  stands-created new now path facts made = record {
+    levels = made.levels ∙ stands.levels;
+    lines = made.lines ∙ stands.lines;
+    objects = made.objects ∙ ap (λ (m : finite.FinMap path_cmp Object). finite.insert m path (fresh facts)) stands.objects;
+    access = made.access ∙ stands.access;
+  }
+
+  -- a word of a segment is written
+  pub stands-written : (now : List ℕ) (path : Path) (i value : ℕ) → objects_of v now ≡ written path i value (objects_of v words) → StandsFor v now (record s { objects = written path i value s.objects })
+  stands-written now path i value is = record {
+    levels = stands.levels;
+    lines = stands.lines;
+    objects = is ∙ ap (written path i value) stands.objects;
+    access = stands.access;
+  }
+
+  -- facts, levels and cells are those of the state
+  pub stands-facts : (path : Path) → facts_in v path ≡ facts_at s path
+  stands-facts path = sym (facts-same (object_of words) (λ (o : Object). o.facts) v.objects path) ∙ ap (λ m. option_map (λ (o : Object). o.facts) (finite.get m path)) stands.objects
+
+  pub stands-level : (path : Path) → level_number v path ≡ state_level_number s path
+  stands-level path = sym (level-same (object_of words) (λ (o : Object). o.facts) v.objects path) ∙ ap (λ m. level_in (λ (o : Object). o.facts) m path) stands.objects
+
+  pub stands-cell : (path : Path) → cell_of v path ≡ record { limit = quota_at s (governing s path); used = used s (governing s path) }
+  stands-cell path = sym (usage-same (object_of words) (λ (o : Object). o.facts) v.objects path) ∙ ap (λ m. usage_in (λ (o : Object). o.facts) m path) stands.objects
 
 -- the row grants less, and what was held by it goes
 pub stands-rescinded : (v : Stored) (words : List ℕ) (s : State) → StandsFor v words s → (subject : ℕ) (path : Path) (modes : Modes) →

@@ -1,8 +1,9 @@
 -- The tables of a store, taken together: the tree names objects by their paths, all other tables by their slots, and
 -- typed bytes by the number of their line.
-use Rattle.std.specs.Prelude.{◌≡◌, ◌≢◌, ℕ, zero, suc, ◌+◌, ◌≤◌, ◌<◌, Bool, List, [], ◌∷◌, length, map, flat_map, sum_by, Option, Some, None, option_map, slice_index_or}
+use Rattle.std.specs.Prelude.{◌≡◌, ◌≢◌, ℕ, zero, suc, ◌+◌, ◌≤◌, ◌<◌, Bool, List, [], ◌∷◌, length, map, flat_map, sum_by, Option, Some, None, option_map, slice_index_or, slice_set, replicate, ◌*◌}
 use Rattle.std.specs.FinMap as finite
 use Rattle.std.specs.FinSet as set
+use Rattle.std.specs.Ordering.{nat_cmp}
 use Rattle.bk_level.specs.Levels.{Level}
 use Rattle.bk_path.specs.Paths.{Path, path_cmp}
 use Rattle.bk_quota.specs.Charges.{passes, quota_in}
@@ -106,6 +107,26 @@ segment_blocks facts = blocks_of facts.kind facts.blocks
 abbrev pub or_zero : Option ℕ → ℕ
 or_zero None = 0
 or_zero (Some n) = n
+
+-- so many blocks of words that are zero
+abbrev pub zeros_of : Option ℕ → Option (List ℕ)
+zeros_of blocks = option_map (λ n. replicate (32 * n) 0) blocks
+
+-- the words of a new object
+abbrev pub new_words : Facts → Option (List ℕ)
+new_words facts = zeros_of (segment_blocks facts)
+
+-- what is added at a slot, if there is something
+abbrev pub with_some : {Y : Type 0} → finite.FinMap nat_cmp Y → (slot : ℕ) → Option Y → finite.FinMap nat_cmp Y
+with_some m slot None = m
+with_some m slot (Some y) = finite.insert m slot y
+
+-- the lists of typed bytes in which the line of that kind begins anew
+abbrev pub with_new_input : Kind → List (List ℕ) → List (List ℕ)
+with_new_input Directory inputs = inputs
+with_new_input Segment inputs = inputs
+with_new_input Mailbox inputs = inputs
+with_new_input (Line n) inputs = slice_set inputs n []
 
 -- the blocks that an object's words take
 abbrev pub size_of : Facts → ℕ

@@ -1,5 +1,5 @@
 -- The store as its callers see it: the levels, the number of lines, each object by its path, and the current access set.
-use Rattle.std.specs.Prelude.{ℕ, ◌*◌, ◌==◌, ◌&&◌, not, Bool, true, false, nat_lt, if◌then◌else◌, List, [], ◌∷◌, ◌++◌, length, map, filter, Option, Some, None, option_map, IsSome, IsTrue, slice_set, slice_index_or}
+use Rattle.std.specs.Prelude.{◌≡◌, true, ℕ, ◌+◌, ◌*◌, ◌<◌, ◌≤◌, ◌≢◌, ◌==◌, ◌&&◌, not, Bool, true, false, nat_lt, if◌then◌else◌, List, [], ◌∷◌, ◌++◌, length, map, filter, Option, Some, None, option_map, IsSome, IsTrue, slice_set, slice_index_or}
 use Rattle.std.specs.FinMap as finite
 use Rattle.std.specs.FinSet as set
 use Rattle.bk_level.specs.Levels.{Level}
@@ -10,12 +10,13 @@ use Rattle.bk_object.specs.declared.modes.Modes.{Modes}
 use Rattle.bk_object.specs.Kinds.{is_directory}
 use Rattle.bk_object.specs.Modes.{Mode, Read, Execute, Write, Append, has, modes_where}
 use Rattle.bk_object.specs.Rows.{given, rescinded}
-use Rattle.bk_path.specs.Paths.{Path, path_cmp, is_same}
-use Rattle.bk_quota.specs.Charges.{passes, governing_in, quota_in, used_in}
+use Rattle.bk_path.specs.Paths.{Path, path_cmp, parent, is_same, is_inferior}
+use Rattle.bk_quota.specs.Charges.{passes, charge_of, governing_in, level_in, quota_in, used_in}
 use Rattle.bk_quota.specs.Usage.{Usage}
 use Rattle.bk_frames.specs.Extents.{Extent, words_at}
 use Rattle.bk_queue.specs.declared.mailbox.Message.{Message}
 use Rattle.bk_queue.specs.Queues.{counted_on}
+use Rattle.bk_state.specs.Changes.{new_contents}
 use Rattle.bk_state.specs.Maps.{map_values}
 use Rattle.bk_state.specs.Start.{is_line}
 use Rattle.bk_state.specs.State.{Triple, triple_cmp, Object, Contents, Children, Words, Messages, Typed}
@@ -182,12 +183,62 @@ with_given subject path modes v = changed_at path (with_row (given subject modes
 abbrev pub with_rescinded : ℕ → Path → Modes → Stored → Stored
 with_rescinded subject path modes v = changed_at path (with_row (rescinded subject modes)) (without_held subject path modes v)
 
+-- ---- objects that go
+
+-- the object at the path and its inferiors go, with all that any subject holds of them
+abbrev pub without_group : Path → Stored → Stored
+without_group path v = record v {
+  objects = finite.retain_keys v.objects (λ other. not (is_inferior other path));
+  access = set.retain v.access (λ t. not (is_inferior t.1 path));
+}
+
+-- the object at the path goes, with all that any subject holds of it
+abbrev pub without_one : Path → Stored → Stored
+without_one path v = record v {
+  objects = finite.retain_keys v.objects (λ other. not (is_same other path));
+  access = set.retain v.access (λ t. not (is_same t.1 path));
+}
+
+-- one object at or below the path was there, and is gone
+pub record IsOneLess (old new : Stored) (of : Path) : Type 0 where
+  pub path : Path
+  pub inferior : is_inferior path of ≡ true
+  pub was : IsThere old path
+  pub gone : new ≡ without_one path old
+
+-- ---- objects that come
+
+-- a new object: its segment has words that are zero, and nothing waits in it
+abbrev pub fresh : Facts → Object
+fresh facts = record { facts = facts; contents = new_contents facts.kind facts.blocks }
+
+-- if it is a line, its number is below the number of lines and no object's
+abbrev pub IsFreeLine : Stored → Kind → Type 0
+IsFreeLine v kind = (n : ℕ) → kind ≡ Line n → (n < v.lines) × ((path : Path) (e : Entry) → finite.get v.objects path ≡ Some e → e.facts.kind ≢ Line n)
+
+-- a new object with these facts is at the path, and nothing else has changed
+pub record IsCreated (old new : Stored) (words now : List ℕ) (path : Path) (facts : Facts) : Type 0 where
+  pub objects : objects_of new now ≡ finite.insert (objects_of old words) path (fresh facts)
+  pub access : new.access ≡ old.access
+  pub levels : new.levels ≡ old.levels
+  pub lines : new.lines ≡ old.lines
+
+-- ---- cells
+
+-- the number of the level of the object at the path
+abbrev pub level_number : Stored → Path → ℕ
+level_number v path = level_in (λ e. e.facts) v.objects path
+
 -- the cell that governs the directory: its own where it has one, else that of its nearest ancestor with a cell
 abbrev pub cell_of : Stored → Path → Usage
 cell_of v path = record {
   limit = quota_in (λ e. e.facts) v.objects (governing_in (λ e. e.facts) v.objects path);
   used = used_in (λ e. e.facts) v.objects (governing_in (λ e. e.facts) v.objects path);
 }
+
+-- the charge of an object at the path fits under the limit of the cell that governs its parent
+abbrev pub Fits : Stored → Path → Facts → Type 0
+Fits v path facts = (cell_of v (parent path)).used + charge_of facts (level_number v (parent path)) ≤ (cell_of v (parent path)).limit
 
 -- ---- words
 

@@ -1,11 +1,12 @@
 // The mailboxes of all slots, and the typed bytes of all lines.
 
-ghost use Rattle.std.specs.Prelude.{◌≡◌, ◌<◌, [], length, map, replicate, slice_set, slice_index_or, IfOk};
+ghost use Rattle.std.specs.Prelude.{◌≡◌, ◌<◌, ℕ, [], length, map, replicate, slice_set, slice_index_or, IfOk};
+ghost use Rattle.bk_object.specs.declared.kind.Kind.TheVariants.{Line};
 ghost use Rattle.bk_store.specs.Stored.{first_of, kept, oldest, received, sent, without_first};
-ghost use Rattle.bk_store.specs.Joined.{bytes_of, no_mail, waiting_of};
+ghost use Rattle.bk_store.specs.Joined.{bytes_of, no_mail, waiting_of, with_new_input};
 
 use bk_base::NoMemory;
-use bk_object::Slot;
+use bk_object::{Kind, Slot};
 use bk_queue::{LineIn, Mailbox, Message};
 use std::alloc::Global;
 
@@ -99,4 +100,22 @@ fn take_from(input: &mut LineIn) -> Option<u8>
     ensures rest { bytes_of input.new ≡ without_first (bytes_of input.old) }
 {
     input.take()
+}
+
+// Nothing waits in the mailbox of the slot any more.
+pub(crate) fn clear_mailbox(mailboxes: &mut Vec<Mailbox>, slot: Slot)
+    requires { slot.n < length mailboxes.old.items }
+    ensures { map waiting_of mailboxes.new.items ≡ slice_set (map waiting_of mailboxes.old.items) slot.n no_mail }
+{
+    mailboxes[slot.n as usize] = Mailbox::new();
+}
+
+// Nothing waits on the line any more, if the kind is one.
+pub(crate) fn clear_input(inputs: &mut Vec<LineIn>, kind: Kind)
+    requires { (n : ℕ) → kind ≡ Line n → n < length inputs.old.items }
+    ensures { map bytes_of inputs.new.items ≡ with_new_input kind (map bytes_of inputs.old.items) }
+{
+    if let Kind::Line(n) = kind {
+        inputs[n as usize] = LineIn::new();
+    }
 }

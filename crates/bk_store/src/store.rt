@@ -1,23 +1,28 @@
 // The tables as one store.
 
-ghost use Rattle.std.specs.Prelude.{◌≡◌, ◌≢◌, ◌<◌, ◌≤◌, ◌*◌, ◌/◌, ◌%◌, ◌↔◌, [], true, false, length, option_map, slice_get, take, IfOk, IsSome};
+ghost use Rattle.std.specs.Prelude.{◌≡◌, ◌≢◌, Err, IsNone, OnErr, OnOk, ◌<◌, ◌≤◌, ◌*◌, ◌/◌, ◌%◌, ◌↔◌, [], true, false, length, option_map, slice_get, take, IfOk, IsSome};
 ghost use Rattle.std.specs.FinMap as map;
 ghost use Rattle.bk_object.specs.Kinds.{is_directory};
-ghost use Rattle.bk_store.specs.Stored.{begun, byte_in, cell_of, extent_in, facts_in, message_in, modes_held, number_of, objects_of, with_given, with_held, with_message, with_rescinded, with_typed, without_byte, without_held, without_message, word_at, written, HasDirectory, HasLine, HasMailbox, HasOffset, HasSegment, IsThere};
-ghost use Rattle.bk_store.specs.Joined.{AreExtentsApart, HaveKinds};
+ghost use Rattle.bk_frames.specs.Extents.{free_in, segments_of, sizes_of, IsApart, KeepsRoom};
+ghost use Rattle.bk_path.specs.Paths.{parent};
+ghost use Rattle.bk_tree.specs.Kept.{HasBlocks, IsFit};
+ghost use Rattle.bk_store.specs.Stored.{begun, byte_in, cell_of, extent_in, facts_in, level_number, message_in, modes_held, number_of, objects_of, with_given, with_held, with_message, with_rescinded, with_typed, without_byte, without_group, without_held, without_message, word_at, written, Fits, HasDirectory, HasLine, HasMailbox, HasOffset, HasSegment, IsCreated, IsFreeLine, IsOneLess, IsThere};
+ghost use Rattle.bk_store.specs.Joined.{blocks_of, or_zero, with_some, zeros_of, AreExtentsApart, HaveKinds};
 
-use crate::queues::{empty_inputs, empty_mailboxes, put_at, take_at, take_typed, type_at};
+use crate::queues::{
+    clear_input, clear_mailbox, empty_inputs, empty_mailboxes, put_at, take_at, take_typed, type_at,
+};
 use bitflags::Flags;
 use bk_access::Access;
 use bk_base::NoMemory;
 use bk_core::Core;
 use bk_frames::Frames;
 use bk_level::{Level, LevelTable};
-use bk_object::{Facts, Kind, Modes};
+use bk_object::{Facts, Kind, Modes, Slot};
 use bk_path::Path;
 use bk_queue::{LineIn, Mailbox, Message};
 use bk_quota::Cell;
-use bk_tree::Tree;
+use bk_tree::{Tree, TreeNo};
 use std::alloc::Global;
 use std::marker::Model;
 
@@ -157,6 +162,62 @@ impl Store {
         self.access.remove(subject, slot, modes);
     }
 
+    /// A new object with these facts is at the path: a segment whose words are zero, a mailbox or a line in which nothing
+    /// waits. Taken goes before Quota, and where no object is created nothing changes. The words of core below block 64
+    /// stay in any case.
+    pub fn create(&mut self, core: &mut Core, path: Path, facts: Facts) -> Result<(), TreeNo>
+        requires below_root { path ≢ [] }
+        requires parent { HasDirectory self.old (parent path) }
+        requires fit { IsFit facts (level_number self.old (parent path)) }
+        requires level { facts.level < length self.old.levels }
+        requires line { IsFreeLine self.old facts.kind }
+        ensures ok { OnOk result (IsCreated self.old self.new core.old.words core.new.words path facts) }
+        ensures err { OnErr result ((self.new ≡ self.old) × (core.new ≡ core.old)) }
+        ensures taken { (result ≡ Err TreeNo.Taken) ↔ IsThere self.old path }
+        ensures quota { (result ≡ Err TreeNo.Quota) ↔ (IsNone (map.get self.old.objects path) × ¬ Fits self.old path facts) }
+        ensures kernel { take 2048 core.new.words ≡ take 2048 core.old.words }
+    {
+        let kind = facts.kind;
+        let blocks = facts.blocks;
+        match self.tree.create(path, facts) {
+            Ok(slot) => {
+                self.tree.law_slots();
+                self.tree.law_room();
+                place_for(&mut self.frames, core, slot, kind, blocks);
+                clear_mailbox(&mut self.mailboxes, slot);
+                clear_input(&mut self.inputs, kind);
+                Ok(())
+            }
+            Err(no) => Err(no),
+        }
+    }
+
+    /// The object at the path and all its inferiors go, with all that any subject holds of them. All else stays.
+    pub fn delete_group(&mut self, path: Path)
+        requires below_root { path ≢ [] }
+        requires there { IsThere self.old path }
+        ensures { self.new ≡ without_group path self.old }
+    {
+        while self.remove_one(path) {}
+    }
+
+    // One object at or below the path goes, if there is one.
+    fn remove_one(&mut self, of: Path) -> bool
+        requires { of ≢ [] }
+        ensures some { result ≡ true → IsOneLess self.old self.new of }
+        ensures none { result ≡ false → (self.new ≡ self.old) × (without_group of self.old ≡ self.old) }
+    {
+        match self.tree.next_leaf(of) {
+            Some(place) => {
+                self.access.clear_object(place);
+                self.frames.free(place);
+                self.tree.remove_leaf(place);
+                true
+            }
+            None => false,
+        }
+    }
+
     /// The level with that number: None exactly where the list of levels has none.
     pub fn level(&self, n: u8) -> Option<Level>
         ensures { result ≡ slice_get self.now.levels n }
@@ -270,5 +331,23 @@ fn line_of(kind: Kind) -> Option<u8>
     match kind {
         Kind::Line(n) => Some(n),
         Kind::Directory | Kind::Segment | Kind::Mailbox => None,
+    }
+}
+
+// Places the words of a segment, which are zero, and nothing for other kinds.
+fn place_for(frames: &mut Frames, core: &mut Core, slot: Slot, kind: Kind, blocks: u8)
+    requires known { slot.n < frames.old.slots }
+    requires blocks { HasBlocks kind blocks }
+    requires room { or_zero (blocks_of kind blocks) ≤ free_in frames.old }
+    requires free { IsNone (map.get frames.old.extents slot.n) }
+    requires apart { IsApart frames.old }
+    ensures segments { segments_of frames.new core.new.words ≡ with_some (segments_of frames.old core.old.words) slot.n (zeros_of (blocks_of kind blocks)) }
+    ensures sizes { sizes_of frames.new ≡ with_some (sizes_of frames.old) slot.n (blocks_of kind blocks) }
+    ensures room { KeepsRoom frames.old frames.new }
+    ensures below { take (32 * frames.old.first) core.new.words ≡ take (32 * frames.old.first) core.old.words }
+    ensures apart { IsApart frames.new }
+{
+    if let Kind::Segment = kind {
+        frames.place(core, slot, blocks);
     }
 }
