@@ -2,3 +2,8 @@ pub mod Seen
 pub mod HeldBits
 pub mod Reaching
 pub mod Serving
+pub mod Served
+pub mod Mailboxes
+pub mod Deposited
+pub mod TypedBytes
+pub mod Told

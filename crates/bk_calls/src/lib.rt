@@ -12,9 +12,13 @@ mod answering;
 mod asking;
 mod caller;
 mod causes;
+mod directories;
+mod lines;
+mod mail;
 mod process;
 mod reach;
 mod reply;
+mod segments;
 mod windows;
 
 pub use caller::Caller;
