@@ -1,5 +1,6 @@
 pub mod Seen
 pub mod HeldBits
+pub mod RuleChecks
 pub mod Reaching
 pub mod Serving
 pub mod Served
@@ -7,3 +8,4 @@ pub mod Mailboxes
 pub mod Deposited
 pub mod TypedBytes
 pub mod Told
+pub mod RuleChanges

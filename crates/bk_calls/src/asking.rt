@@ -6,7 +6,7 @@ ghost use Rattle.bk_object.specs.Kinds.{is_directory};
 ghost use Rattle.bk_object.specs.Modes.{has, Read, Execute, Write, Append};
 ghost use Rattle.bk_path.specs.Paths.{unpack};
 ghost use Rattle.bk_quota.specs.Charges.{passes};
-ghost use Rattle.bk_state.specs.Calls.{path_in};
+ghost use Rattle.bk_state.specs.Calls.{path_in, request_in};
 ghost use Rattle.bk_state.specs.Named as model;
 ghost use Rattle.bk_store.specs.Stored.{all_modes, facts_in, holds};
 ghost use Rattle.bk_calls.specs.Made.{seen_by};
@@ -24,6 +24,13 @@ pub(crate) fn path_of(process: &Process) -> Option<Path>
     ensures path { IfSome result (λ path. path_in process.now.registers.general ≡ path) }
 {
     Path::unpack(process.registers.general[1], process.registers.general[2])
+}
+
+/// The modes in the low byte of R3.
+pub(crate) fn modes_of(process: &Process) -> Modes
+    ensures { result ≡ (request_in process.now.registers.general).modes }
+{
+    Modes::from_bits_retain((process.registers.general[3] % 256) as u8)
 }
 
 /// Whether the caller may name the object: it is root, or its parent is a directory that the subject holds by read or by
@@ -85,8 +92,8 @@ fn have_common(a: Modes, b: Modes) -> bool
     (a.bits() & b.bits()) % 16 != 0
 }
 
-// Whether a directory is at the path.
-fn is_directory(store: &Store, path: Path) -> bool
+/// Whether a directory is at the path.
+pub(crate) fn is_directory(store: &Store, path: Path) -> bool
     ensures { result ≡ passes (λ facts. is_directory facts.kind) (facts_in store.now path) }
 {
     match store.facts(path) {

@@ -13,11 +13,14 @@ mod asking;
 mod caller;
 mod causes;
 mod directories;
+mod facts;
 mod lines;
 mod mail;
+mod new_object;
 mod process;
 mod reach;
 mod reply;
+mod rules;
 mod segments;
 mod windows;
 
