@@ -69,7 +69,7 @@ is_of_object SetFaultEntry = false
 is_of_object Stop = false
 
 module _ (caller : Caller) (store : Stored) (words : List ℕ) where
-  abbrev fails : Service → List ℕ → Cause → Bool
+  abbrev pub fails : Service → List ℕ → Cause → Bool
   fails service general = call_fails (seen_by caller store words) caller.subject (Other service) general
 
   checks-split : (service : Service) (general : List ℕ) → is_of_object service ≡ true →

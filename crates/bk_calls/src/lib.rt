@@ -12,12 +12,16 @@ mod answering;
 mod asking;
 mod caller;
 mod causes;
+mod directories;
 mod facts;
+mod lines;
+mod mail;
 mod new_object;
 mod process;
 mod reach;
 mod reply;
 mod rules;
+mod segments;
 mod windows;
 
 pub use caller::Caller;
