@@ -1,6 +1,6 @@
 -- What create finds: a place below a directory, in bounds, free and paid for.
-use Rattle.std.proofs.Common.{◌≡◌, ◌≢◌, ℕ, zero, suc, ◌<◌, ◌≤◌, ◌/◌, ◌%◌, ◌==◌, Bool, true, false, ◌||◌, ◌&&◌, List, [], ◌∷◌, length, Option, Some, None, refl, sym, ap, ap₂, subst, ◌∙◌, arith}
-use Rattle.std.specs.Prelude.{◌+◌, not, is_none, is_some, nat_le, nat_lt, slice_index, option_map, if◌then◌else◌, Result, Ok, Err, IsOk}
+use Rattle.std.proofs.Common.{◌≡◌, ◌≢◌, ℕ, zero, suc, ◌<◌, ◌≤◌, ◌/◌, ◌%◌, ◌==◌, Bool, true, false, ◌||◌, ◌&&◌, List, [], length, Option, Some, None, refl, sym, ap, subst, ◌∙◌, arith}
+use Rattle.std.specs.Prelude.{◌+◌, not, is_some, nat_le, nat_lt, slice_index, option_map, if◌then◌else◌, Result, Ok, Err, IsOk}
 use Rattle.std.proofs.lemmas.Bool.Decides.{nat_tests}
 use Rattle.std.specs.FinMap as finite
 use Rattle.bk_object.specs.declared.Facts.{Facts}
@@ -11,21 +11,21 @@ use Rattle.bk_path.specs.Paths.{Path, path_cmp, is_root, parent}
 use Rattle.bk_tree.specs.declared.tree.TreeNo.{TreeNo}
 use Rattle.bk_tree.specs.declared.tree.TreeNo.TheVariants.{Taken, Quota as OverQuota}
 use Rattle.bk_tree.specs.Kept.{HasBlocks, HasQuota, IsFit}
-use Rattle.bk_state.specs.State.{State, Object, facts_at}
+use Rattle.bk_state.specs.State.{State, Object}
 use Rattle.bk_state.specs.Checks.{new_facts, has_room}
 use Rattle.bk_state.specs.Quota.{level_number}
 use Rattle.bk_state.specs.Changes.{changed}
 use Rattle.bk_state.specs.Calls.{call_refusal, is_no_object, is_outside, kind_from, path_in, request_in}
 use Rattle.bk_state.specs.declared.call.Call.TheVariants.{ByRule}
 use Rattle.bk_state.specs.declared.rule.Rule.TheVariants.{Create}
-use Rattle.bk_store.specs.Stored.{Entry, Stored, Fits, HasDirectory, IsCreated, IsThere, IsFreeLine, cell_of, fresh, level_number as level_in_store}
+use Rattle.bk_store.specs.Stored.{Entry, Stored, Fits, HasDirectory, IsCreated, IsFreeLine, cell_of, fresh, level_number as level_in_store}
 use Rattle.bk_store.specs.Stands.{StandsFor}
 use Rattle.bk_store.proofs.Stands.{stands-created, stands-level}
 use Rattle.bk_quota.specs.Charges.{charge_of}
 use Rattle.bk_calls.specs.Made.{seen_by}
 use Rattle.bk_calls.specs.declared.caller.Caller.{Caller}
 use Rattle.bk_calls.proofs.RuleChecks.{level-there}
-use Rattle.bk_calls.proofs.RuleChanges.{AllPass, bounds-kept, checks-passed}
+use Rattle.bk_calls.proofs.RuleChanges.{bounds-kept, checks-passed}
 use Rattle.bk_calls.proofs.Seen.{facts-seen, named-below, room-seen, stands-seen, with_lines}
 
 -- ---- arguments in their bounds

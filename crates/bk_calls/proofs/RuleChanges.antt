@@ -1,11 +1,11 @@
 -- What is made of a call of a rule that no check refuses.
-use Rattle.std.proofs.Common.{◌≡◌, ◌≢◌, ℕ, ◌<◌, ◌≤◌, Bool, true, false, ◌||◌, List, [], ◌∷◌, length, take, Option, Some, None, refl, sym, ap, subst, ◌∙◌, arith}
+use Rattle.std.proofs.Common.{◌≡◌, ◌≢◌, ℕ, ◌<◌, Bool, true, false, ◌||◌, List, [], ◌∷◌, length, take, Option, Some, None, refl, sym, ap, subst, ◌∙◌, arith}
 use Rattle.std.specs.Prelude.{is_none, is_some, nat_le, slice_index, option_map, find as first, if◌then◌else◌}
 use Rattle.std.proofs.lemmas.List.{length-replicate}
 use Rattle.std.proofs.lemmas.Bool.Decides.{nat_tests}
 use Rattle.std.specs.FinMap as finite
 use Rattle.bk_object.specs.declared.modes.Modes.{Modes}
-use Rattle.bk_object.specs.Modes.{Mode, Read, Execute, Write, Append}
+use Rattle.bk_object.specs.Modes.{Read, Execute, Write, Append}
 use Rattle.bk_object.specs.Rows.{given, rescinded}
 use Rattle.bk_path.specs.Paths.{Path, is_root}
 use Rattle.bk_process.specs.declared.process.Process.{Process}
@@ -18,7 +18,7 @@ use Rattle.bk_state.specs.Answers.{outcome, reply, with_values}
 use Rattle.bk_state.specs.declared.call.Call.TheVariants.{ByRule}
 use Rattle.bk_state.specs.declared.rule.Rule.{Rule}
 use Rattle.bk_state.specs.declared.rule.Rule.TheVariants.{GetRead, GetAppend, GetExecute, GetWrite, Release, Give, Rescind, Create, DeleteGroup}
-use Rattle.bk_store.specs.Stored.{Entry, Stored, IsThere, facts_in, with_held, without_held, with_given, with_rescinded, without_group}
+use Rattle.bk_store.specs.Stored.{Entry, Stored, IsThere, with_held, without_held, with_given, with_rescinded, without_group}
 use Rattle.bk_store.specs.Stands.{StandsFor}
 use Rattle.bk_store.proofs.Stands.{stands-held, stands-released, stands-given, stands-rescinded, stands-deleted}
 use Rattle.bk_calls.specs.Made.{seen_by, made_by, IsMade}

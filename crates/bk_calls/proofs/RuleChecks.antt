@@ -1,17 +1,15 @@
 -- The checks of a call of a rule, one after another: the path, the arguments, and then those of the rule.
-use Rattle.std.proofs.Common.{◌≡◌, ◌⊎◌, inl, inr, ℕ, ◌<◌, ◌/◌, ◌%◌, Bool, true, false, ◌||◌, List, [], ◌∷◌, Option, Some, None, length, refl, sym, ap, ◌∙◌, arith}
+use Rattle.std.proofs.Common.{◌≡◌, ◌⊎◌, inl, inr, ℕ, ◌<◌, ◌/◌, ◌%◌, Bool, true, false, ◌||◌, List, Option, Some, None, length, refl, sym, ap, ◌∙◌, arith}
 use Rattle.std.proofs.lemmas.Bool.Decides.{nat_tests}
-use Rattle.std.specs.Prelude.{is_none, slice_index, option_map, nat_le, nat_lt, if◌then◌else◌, find as first}
-use Rattle.bk_level.specs.Levels.{Level}
+use Rattle.std.specs.Prelude.{is_none, slice_index, option_map, nat_le, nat_lt, if◌then◌else◌}
 use Rattle.bk_path.specs.Paths.{Path, unpack}
-use Rattle.bk_rules.specs.Decisions.{fails, answer, answer_for, facts_of}
+use Rattle.bk_rules.specs.Decisions.{answer, answer_for, facts_of}
 use Rattle.bk_rules.specs.declared.facts.RuleFacts.{RuleFacts}
 use Rattle.bk_rules.specs.declared.answers.Decision.{Decision}
 use Rattle.bk_rules.specs.declared.answers.Decision.TheVariants.{Yes, No, Unknown}
-use Rattle.bk_rules.proofs.AnswersAgree.{answers_agree}
 use Rattle.bk_state.specs.State.{State}
-use Rattle.bk_state.specs.Checks.{Cause, NoPath, BadArgument, Request, cause_number, checks, refusal}
-use Rattle.bk_state.specs.Calls.{breaks_bounds, is_no_object, call_fails, call_refusal, request_in, rule_checks}
+use Rattle.bk_state.specs.Checks.{Cause, NoPath, BadArgument, Request, cause_number, refusal}
+use Rattle.bk_state.specs.Calls.{breaks_bounds, is_no_object, call_refusal, request_in}
 use Rattle.bk_state.specs.declared.call.Call.TheVariants.{ByRule}
 use Rattle.bk_state.specs.declared.rule.Rule.{Rule}
 use Rattle.bk_state.specs.declared.rule.Rule.TheVariants.{GetRead, GetAppend, GetExecute, GetWrite, Release, Give, Rescind, Create, DeleteGroup}

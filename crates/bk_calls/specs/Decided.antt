@@ -1,5 +1,5 @@
 -- What a rule is decided from, and what a call of a rule finds once its checks have passed.
-use Rattle.std.specs.Prelude.{◌≡◌, ℕ, false, List, Option, Some, None, Result, Ok, Err, option_map}
+use Rattle.std.specs.Prelude.{◌≡◌, ℕ, false, List, Some, None, Result, Ok, Err, option_map}
 use Rattle.bk_level.specs.Levels.{lowest}
 use Rattle.bk_path.specs.Paths.{Path}
 use Rattle.bk_rules.specs.Decisions.{facts_of}

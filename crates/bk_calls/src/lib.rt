@@ -4,13 +4,14 @@
 //! Calls: `call`.
 //! Proved: a call makes exactly what the definition of its number gives: the first check that fails and its answer, or the
 //! change of objects, accesses and process, the values in the registers, and the byte sent; core below block 64 stays.
-//! Stands on: `bk_core`, `bk_level`, `bk_object`, `bk_path`, `bk_process`, `bk_queue`, `bk_quota`, `bk_rules`, `bk_space`,
-//! `bk_state`, `bk_store`.
+//! Stands on: `bitflags`, `bk_base`, `bk_core`, `bk_frames`, `bk_level`, `bk_object`, `bk_path`, `bk_process`, `bk_queue`,
+//! `bk_quota`, `bk_rules`, `bk_space`, `bk_state`, `bk_store`, `bk_tree`.
 #![tactic(auto)]
 
 mod answering;
 mod asking;
 mod caller;
+mod calls;
 mod causes;
 mod directories;
 mod facts;
@@ -25,4 +26,5 @@ mod segments;
 mod windows;
 
 pub use caller::Caller;
+pub use calls::call;
 pub use reply::{Answer, LineByte, Reply};

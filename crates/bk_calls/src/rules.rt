@@ -166,13 +166,7 @@ fn allowed(store: &Store, process: &Process, caller: &Caller, rule: Rule) -> Res
 }
 
 // The decision on the object at the path.
-fn decided(
-    store: &Store,
-    process: &Process,
-    caller: &Caller,
-    path: Path,
-    rule: Rule,
-) -> Decision
+fn decided(store: &Store, process: &Process, caller: &Caller, path: Path, rule: Rule) -> Decision
     requires subject { caller.now.subject < caller.now.subjects }
     requires subjects { caller.now.subjects ≤ 32 }
     requires greatest { caller.now.f_s < length store.now.levels }

@@ -1,11 +1,11 @@
-use Rattle.std.proofs.Common.{◌≡◌, false, Option, sym, ap, ◌∙◌, is_some, refl}
+use Rattle.std.proofs.Common.{◌≡◌, false, Option, sym, ap, ◌∙◌, is_some}
 use Rattle.std.specs.Prelude.{option_map, unwrap_or}
 use Rattle.bk_level.specs.Levels.{level_at, lowest}
 use Rattle.bk_object.specs.Modes.{Write, no_modes}
 use Rattle.bk_object.specs.Rows.{in_row}
 use Rattle.bk_object.specs.declared.Facts.{Facts}
 use Rattle.bk_object.specs.declared.kind.Kind.TheVariants.{Directory}
-use Rattle.bk_path.specs.Paths.{Path, is_root, parent}
+use Rattle.bk_path.specs.Paths.{is_root, parent}
 use Rattle.bk_state.specs.State.{facts_at}
 use Rattle.bk_state.specs.Named.{is_named}
 use Rattle.bk_state.specs.declared.clearance.Clearance.{Clearance}

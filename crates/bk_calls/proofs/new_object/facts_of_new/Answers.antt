@@ -1,8 +1,8 @@
 use Rattle.std.proofs.Common.{◌≡◌, Option, ◌∙◌, sym, ap, subst}
-use Rattle.std.specs.Prelude.{option_map, slice_index, unwrap_or}
+use Rattle.std.specs.Prelude.{option_map, unwrap_or}
 use Rattle.bk_level.specs.Levels.{level_at, lowest}
 use Rattle.bk_object.specs.declared.Facts.{Facts}
-use Rattle.bk_path.specs.Paths.{Path, parent}
+use Rattle.bk_path.specs.Paths.{parent}
 use Rattle.bk_rules.specs.Decisions.{answer, facts_of, level_or_lowest}
 use Rattle.bk_state.specs.State.{facts_at}
 use Rattle.bk_state.specs.Calls.{request_in}
@@ -26,4 +26,4 @@ returns c = λ words.
     let level : c.level_of-facts.result ≡ level_or_lowest v (facts_at v (parent request.path)) = c.level_of-facts.ensures ∙ ap (λ (o : Option Facts). unwrap_or (option_map (λ facts. level_at store.levels facts.level) o) lowest) parent_facts in
     (λ i. answer (record (there i) { parent_level = level i; new_level = c.level_at-facts.ensures i; fits = c.has_room.result }) Create)
     ∙ only-fits (facts_of v caller.subject Create request) c.has_room.result (λ named below.
-        c.has_room.ensures (subst (λ p. HasDirectory store p) (sym above) (named-below caller store words caller.subject request.path named below)) caller words (sym above))
+    c.has_room.ensures (subst (λ p. HasDirectory store p) (sym above) (named-below caller store words caller.subject request.path named below)) caller words (sym above))

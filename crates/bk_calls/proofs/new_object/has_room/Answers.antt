@@ -1,4 +1,4 @@
-use Rattle.std.proofs.Common.{◌≡◌, ◌+◌, ◌∙◌, sym, ap}
+use Rattle.std.proofs.Common.{◌+◌, ◌∙◌, ap}
 use Rattle.std.specs.Prelude.{nat_le}
 use Rattle.bk_object.specs.declared.Facts.{Facts}
 use Rattle.bk_quota.specs.Charges.{charge_of}

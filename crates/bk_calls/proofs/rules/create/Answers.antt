@@ -1,5 +1,5 @@
-use Rattle.std.proofs.Common.{◌≡◌, ◌<◌, ◌≤◌, ◌∙◌, false, [], length, sym, ap, subst, refl, arith, is_some}
-use Rattle.std.specs.Prelude.{slice_index, OnOk}
+use Rattle.std.proofs.Common.{◌≡◌, ◌<◌, ◌≤◌, ◌∙◌, false, [], length, sym, ap, subst, arith, is_some}
+use Rattle.std.specs.Prelude.{OnOk}
 use Rattle.std.specs.FinMap.{get}
 use Rattle.bk_object.specs.declared.Facts.{Facts}
 use Rattle.bk_path.specs.Paths.{parent}
@@ -43,7 +43,7 @@ unwrap-requires c =
     created-ok c.create.result
     (λ taken. let there = c.create.ensures.taken.0 taken in let free = subst (λ p. is_some (get store.objects p) ≡ false) at (new-free c.args.caller.now store [] general (c.in-Ok.ensures.1 [])) in cc)
     (λ over. (c.create.ensures.quota.0 over).1 (subst (λ p. Fits store p c.new_facts-facts.result) at (subst (λ (f : Facts). Fits store (path_in general) f) (sym c.new_facts-facts.ensures)
-      (new-room c.args.caller.now store [] general (c.in-Ok.ensures.1 []) c.level_number.result number))))
+    (new-room c.args.caller.now store [] general (c.in-Ok.ensures.1 []) c.level_number.result number))))
 
 pub returns-in-Ok : goal.returns-in-Ok
 returns-in-Ok c =
@@ -51,7 +51,7 @@ returns-in-Ok c =
     let general = c.args.process.now.registers.general in
     let number : c.level_number.result ≡ level_number store (parent c.in-Ok.path) = c.level_number.ensures ∙ ap (level_number store) c.parent_of.ensures in
     let created : IsCreated store c.create.new.self c.args.core.now.words c.create.new.core.words c.in-Ok.path c.new_facts-facts.result =
-        subst (λ r. OnOk r (IsCreated store c.create.new.self c.args.core.now.words c.create.new.core.words c.in-Ok.path c.new_facts-facts.result)) c.unwrap.ensures c.create.ensures.ok in
+    subst (λ r. OnOk r (IsCreated store c.create.new.self c.args.core.now.words c.create.new.core.words c.in-Ok.path c.new_facts-facts.result)) c.unwrap.ensures c.create.ensures.ok in
     rule-made c.args.caller.now store c.create.new.self c.args.core.now.words c.create.new.core.words c.args.process.now c.agree.new.process c.agree.result Create c.in-Ok.ensures.1
     (stands-new c.args.caller.now store c.create.new.self c.args.core.now.words c.create.new.core.words general c.in-Ok.path c.new_facts-facts.result c.level_number.result c.in-Ok.ensures.0 number c.new_facts-facts.ensures created)
     c.create.ensures.kernel c.agree.ensures.process c.agree.ensures.reply

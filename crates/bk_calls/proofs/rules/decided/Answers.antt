@@ -1,5 +1,5 @@
-use Rattle.std.proofs.Common.{◌≡◌, Bool, true, false, ◌∙◌, sym, ap, refl}
-use Rattle.bk_rules.specs.Decisions.{answer, answer_for, facts_of}
+use Rattle.std.proofs.Common.{◌≡◌, false, ◌∙◌, sym, ap, refl}
+use Rattle.bk_rules.specs.Decisions.{answer, answer_for}
 use Rattle.bk_rules.proofs.AnswersAgree.{answers_agree}
 use Rattle.bk_state.specs.Checks.{refusal}
 use Rattle.bk_state.specs.Calls.{request_in}

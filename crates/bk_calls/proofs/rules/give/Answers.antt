@@ -1,4 +1,4 @@
-use Rattle.std.proofs.Common.{◌≡◌, ◌∙◌, sym, ap, subst, refl, arith}
+use Rattle.std.proofs.Common.{sym, subst, refl, arith}
 use Rattle.std.specs.Prelude.{slice_index}
 use Rattle.bk_state.specs.Calls.{request_in}
 use Rattle.bk_state.specs.declared.rule.Rule.TheVariants.{Give}

@@ -1,4 +1,4 @@
-use Rattle.std.proofs.Common.{◌≡◌, ◌∙◌, sym, ap, subst, refl}
+use Rattle.std.proofs.Common.{sym, subst, refl}
 use Rattle.bk_state.specs.Calls.{request_in}
 use Rattle.bk_state.specs.declared.rule.Rule.TheVariants.{Release}
 use Rattle.bk_state.specs.Changes.{changed}
