@@ -1,5 +1,5 @@
 -- Used numbers by shares: what the objects of a list are charged, one after the other, and what their map says.
-use Rattle.std.proofs.Common.{◌≡◌, ℕ, suc, ◌+◌, ◌<◌, Bool, true, false, T, ◌&&◌, List, [], ◌∷◌, length, map, drop, get_or, Less, is_lt, refl, sym, ap, subst, ◌∙◌, arith}
+use Rattle.std.proofs.Common.{◌≡◌, ℕ, suc, ◌+◌, ◌<◌, Bool, true, false, T, ◌&&◌, List, [], ◌∷◌, length, map, drop, get_or, Less, is_lt, refl, sym, ap, subst, ◌∙◌, arith, Option, Some, None, Result, Ok}
 use Rattle.std.specs.Prelude.{sum_by, if◌then◌else◌}
 use Rattle.std.specs.FinMap as finmap
 use Rattle.std.specs.FinMap.Entries.{below_all}
@@ -13,9 +13,10 @@ use Rattle.bk_state.specs.State.{Object}
 use Rattle.bk_state.specs.Start.{object_from}
 use Rattle.bk_state.specs.declared.image.ObjectRec.{ObjectRec}
 use Rattle.bk_image.specs.declared.fault.ImageField.TheVariants as field
-use Rattle.bk_image.specs.Parts.{fault}
+use Rattle.bk_image.specs.declared.fault.ImageFault.{ImageFault}
+use Rattle.bk_image.specs.Parts.{fault, ◌>>=◌}
 use Rattle.bk_image.specs.Objects.{Objects, objects_in, used_at, is_over, quotas_at, size}
-use Rattle.bk_image.specs.Views.{IsAscending, part_of, share_at}
+use Rattle.bk_image.specs.Views.{IsAscending, first_of, part_of, share_at}
 use Rattle.bk_image.proofs.Ordered.{entries_of, ascending_tail}
 
 -- a list from a place on, by the value there
@@ -80,10 +81,22 @@ used_is objects cell up =
 
 -- ---- the first cell that is used over its limit
 
-pub quota_over : (all : Objects) (o : ObjectRec) (objects : List ObjectRec) (at : ℕ) → is_over all o ≡ true → quotas_at all (o ∷ objects) at ≡ fault at field.Quota
-unfolding quotas_at
-quota_over all o objects at over = rw over refl
+-- what is told of a place that was found; else what comes of the objects that are left
+abbrev pub told : Option ℕ → Result (Unit {0}) ImageFault → Result (Unit {0}) ImageFault
+told None left = left
+told (Some at) left = fault at field.Quota
 
-pub quota_next : (all : Objects) (o : ObjectRec) (objects : List ObjectRec) (at : ℕ) → is_over all o ≡ false → quotas_at all (o ∷ objects) at ≡ quotas_at all objects (at + size o)
+pub told_next : (all : Objects) (o : ObjectRec) (objects : List ObjectRec) (found : Option ℕ) (at : ℕ) →
+    told found (quotas_at all (o ∷ objects) at) ≡ told (first_of found at (is_over all o)) (quotas_at all objects (at + size o))
 unfolding quotas_at
-quota_next all o objects at within = rw within refl
+told_next all o objects (Some place) at = refl
+told_next all o objects None at = by (is_over all o)
+  where
+    by : (b : Bool) → ((if b then fault at field.Quota else Ok (tt {0})) >>= λ passed. quotas_at all objects (at + size o)) ≡ told (if b then Some at else None) (quotas_at all objects (at + size o))
+    by true = refl
+    by false = refl
+
+-- of no objects nothing is told
+pub told_none : (all : Objects) (at : ℕ) → quotas_at all [] at ≡ Ok (tt {0})
+unfolding quotas_at
+told_none all at = refl

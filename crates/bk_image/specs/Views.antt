@@ -1,5 +1,5 @@
 -- What the code keeps while it reads, as the definitions see it.
-use Rattle.std.specs.Prelude.{◌≡◌, ℕ, ◌<◌, List, [], ◌∷◌, length, slice_index_or, if◌then◌else◌}
+use Rattle.std.specs.Prelude.{◌≡◌, ℕ, ◌<◌, List, [], ◌∷◌, length, slice_index_or, if◌then◌else◌, Bool, Option, Some, None}
 use Rattle.std.specs.declared.cmp.Ordering.TheVariants.{Less}
 use Rattle.bk_object.specs.declared.facts.Facts.{Facts}
 use Rattle.bk_path.specs.Paths.{Path, path_cmp, is_same}
@@ -41,3 +41,8 @@ share_at all (entry ∷ path) facts = record {
 -- what a share adds to the used number of the cell
 abbrev pub part_of : (cell : Path) → Share → ℕ
 part_of cell share = if is_same share.cell cell then share.charge else 0
+
+-- the place that was found before, or else this one where the cell is over its limit
+abbrev pub first_of : Option ℕ → (at : ℕ) → (is_over : Bool) → Option ℕ
+first_of None at is_over = if is_over then Some at else None
+first_of (Some found) at is_over = Some found

@@ -26,6 +26,8 @@ mod rest;
 mod row;
 mod schedule;
 mod subject;
+#[cfg(test)]
+mod tests;
 mod window;
 mod writing;
 

@@ -5,7 +5,7 @@ ghost use Rattle.std.specs.List.{count_by};
 ghost use Rattle.bk_quota.specs.Charges as charges;
 ghost use Rattle.bk_image.specs.Parts.{Gives};
 ghost use Rattle.bk_image.specs.Objects as model;
-ghost use Rattle.bk_image.specs.Views.{IsAscending, part_of, share_at};
+ghost use Rattle.bk_image.specs.Views.{IsAscending, first_of, part_of, share_at};
 
 use crate::fault::{ImageField, ImageStop};
 use crate::lookup::{above, facts_at, is_root};
@@ -120,8 +120,17 @@ fn is_over(objects: &[ObjectRec], shares: &[Share], object: &ObjectRec) -> bool
         && u64::from(object.facts.quota) < used(shares, object.path)
 }
 
+// The place that was found before, or else this one where the object's cell is over its limit.
+fn first_of(found: Option<u32>, at: u32, is_over: bool) -> Option<u32>
+    ensures { result ≡ first_of found at is_over }
+{
+    match found {
+        Some(found) => Some(found),
+        None => is_over.then_some(at),
+    }
+}
+
 // No cell is used over its limit; the objects stand from the place on.
-#[tactic(auto, unfolding(crate::specs::Objects::quotas_at))]
 fn check_quotas(objects: &[ObjectRec], shares: &[Share], start: u32) -> Result<(), ImageStop>
     requires ascending { IsAscending objects.now }
     requires shares { shares.now ≡ map (λ o. share_at (model.objects_in objects.now) o.path o.facts) objects.now }
@@ -130,13 +139,15 @@ fn check_quotas(objects: &[ObjectRec], shares: &[Share], start: u32) -> Result<(
     ensures { Gives (λ x. tt) result (model.quotas_at (model.objects_in objects.now) objects.now start) }
 {
     let mut at = start;
+    let mut found = None;
     for object in objects {
-        if is_over(objects, shares, object) {
-            return Err(bad(at, ImageField::Quota));
-        }
+        found = first_of(found, at, is_over(objects, shares, object));
         at += 28 + 2 * object.words.as_slice().len() as u32;
     }
-    Ok(())
+    match found {
+        Some(at) => Err(bad(at, ImageField::Quota)),
+        None => Ok(()),
+    }
 }
 
 fn is_any_line(kind: Kind) -> bool

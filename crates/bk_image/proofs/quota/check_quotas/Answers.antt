@@ -1,19 +1,11 @@
 use Rattle.std.proofs.Common.{◌≡◌, ◌+◌, ◌*◌, drop, length, sym, ap, ◌∙◌, arith}
 use Rattle.std.specs.Prelude.{sum_by}
+use Rattle.std.proofs.Math.ListN.{drop_of_length-le}
 use Rattle.std.proofs.lemmas.List.Sums.{sum_by-cons}
-use Rattle.bk_image.specs.Objects.{objects_in, quotas_at, size}
-use Rattle.bk_image.proofs.Shares.{from_place, quota_over, quota_next}
+use Rattle.bk_image.specs.Objects.{objects_in, quotas_at, is_over, size}
+use Rattle.bk_image.specs.Views.{first_of}
+use Rattle.bk_image.proofs.Shares.{from_place, told, told_next, told_none}
 use Rattle.bk_image.proofs.quota.check_quotas.Goals as goal
-
-pub returns-then-is_over : goal.returns-then-is_over
-returns-then-is_over c =
-    let all = objects_in c.args.objects.now in
-    let o = c.object-item.result in
-    let here = from_place c.args.objects.now c.loop-object.object-index o c.loop-object-test.true c.object-item.is in
-    rw c.bad.ensures (
-    sym c.loop-object.invariant.exact
-    ∙ ap (λ objects. quotas_at all objects c.loop-object.at) here
-    ∙ quota_over all o (drop (c.loop-object.object-index + 1) c.args.objects.now) c.loop-object.at (sym c.is_over.ensures ∙ c.if-is_over.true))
 
 pub loop-object-preserved : goal.loop-object-preserved
 loop-object-preserved c =
@@ -23,11 +15,20 @@ loop-object-preserved c =
     let here = from_place c.args.objects.now c.loop-object.object-index o c.loop-object-test.true c.object-item.is in
     let words : length c.as_slice.result.now ≡ length o.words = ap length c.as_slice.ensures in
     let next : c.loop-object.at + (28 + 2 * length c.as_slice.result.now) ≡ c.loop-object.at + size o = ap (λ n. c.loop-object.at + (28 + 2 * n)) words in
+    let found : c.first_of-found.result ≡ first_of c.loop-object.found c.loop-object.at (is_over all o) = c.first_of-found.ensures ∙ ap (first_of c.loop-object.found c.loop-object.at) c.is_over.ensures in
     record {
       exact =
-          ap (quotas_at all later) next
-          ∙ sym (quota_next all o later c.loop-object.at (sym c.is_over.ensures ∙ c.if-is_over.false))
-          ∙ ap (λ objects. quotas_at all objects c.loop-object.at) (sym here)
+          (λ i. told (found i) (quotas_at all later (next i)))
+          ∙ sym (told_next all o later c.loop-object.found c.loop-object.at)
+          ∙ ap (λ objects. told c.loop-object.found (quotas_at all objects c.loop-object.at)) (sym here)
           ∙ c.loop-object.invariant.exact;
       fits = omega (arith, next, ap (sum_by size) here, sum_by-cons size o later, c.loop-object.invariant.fits);
     }
+
+pub returns-in-None : goal.returns-in-None
+returns-in-None c =
+    let all = objects_in c.args.objects.now in
+    sym c.loop-object.invariant.exact
+    ∙ ap (λ found. told found (quotas_at all (drop c.loop-object.object-index c.args.objects.now) c.loop-object.at)) c.in-None.is
+    ∙ ap (λ objects. quotas_at all objects c.loop-object.at) (drop_of_length-le c.args.objects.now c.loop-object-test.false)
+    ∙ told_none all c.loop-object.at
