@@ -39,6 +39,10 @@ left_next {X = X} test xs i all = subst (λ ys. list_all test ys ≡ true) (drop
     after_one [] h = refl
     after_one (y ∷ ys) h = grind (arith, h)
 
+-- the byte that was put, by another name
+pub put_same : (now then : List ℕ) (b x : ℕ) → then ≡ now ++ b ∷ [] → b ≡ x → then ≡ now ++ x ∷ []
+put_same now then b x put same = put ∙ ap (λ (y : ℕ). now ++ y ∷ []) same
+
 -- a byte and a text, put behind one another
 pub put_both : (now then end : List ℕ) (x : ℕ) (text : List ℕ) → then ≡ now ++ x ∷ [] → end ≡ then ++ text → end ≡ now ++ x ∷ text
 put_both now then end x text first second = second ∙ ap (λ (t : List ℕ). t ++ text) first ∙ append_assoc now (x ∷ []) text

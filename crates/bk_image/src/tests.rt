@@ -1,7 +1,8 @@
 // Images that were worked out by hand from the format: the sample, its spoilt copies, and one that is too long.
 
-use crate::{ImageStop, read_image};
+use crate::{Image, ImageFault, ImageField, ImageStop, read_image, write_image};
 use bitflags::Flags;
+use bk_base::Bytes;
 use bk_object::Kind;
 use bk_space::Mode;
 use bk_state::{FIRST_BACK, FIRST_FRONT, Hold, ObjectRec, SubjectRec};
@@ -253,5 +254,30 @@ fn refuses_what_is_too_long(rt: HostRuntime) -> Result<(), Fail> {
     }
     assert_eq!(rt; bytes.len(), 518_142);
     assert_eq!(rt; fault_of(alloc, &bytes), Some((518_142, "long")));
+    Ok(())
+}
+
+fn stop(at: u32, field: ImageField) -> Option<ImageStop> {
+    Some(ImageStop::Bad(ImageFault { at, field }))
+}
+
+// With no turns the sample's bytes are no image; 256 places don't fit into their count.
+#[test]
+fn writes_the_sample_as_it_was_read(rt: HostRuntime) -> Result<(), Fail> {
+    let bytes = sample(rt.alloc())?;
+    let (image, _) = read_image(rt.alloc(), &bytes).ok().ok_or("no image")?;
+    let written = write_image(rt.alloc(), &image).ok().ok_or("not written")?;
+    assert!(rt; written.as_slice() == bytes.as_slice());
+    let image = Image { turns: 0, ..image };
+    assert_eq!(rt;
+        write_image(rt.alloc(), &image).err(),
+        stop(6, ImageField::Turns)
+    );
+    let schedule = Bytes::from_vec(vec![in rt.alloc(); 0; 256]?);
+    let image = Image { schedule, ..image };
+    assert_eq!(rt;
+        write_image(rt.alloc(), &image).err(),
+        stop(0, ImageField::Counts)
+    );
     Ok(())
 }

@@ -1,7 +1,7 @@
 use Rattle.std.proofs.Common.{◌≡◌, ◌∷◌, ◌++◌, List, ℕ, ap, ◌∙◌, []}
 use Rattle.bk_image.specs.Spelling.{hold_bytes, path_bytes}
 use Rattle.bk_image.specs.Writing.{HoldFits}
-use Rattle.bk_image.proofs.PutLemmas.{StandsAt, text_next, fits_next, put_both}
+use Rattle.bk_image.proofs.PutLemmas.{StandsAt, text_next, fits_next, put_same, put_both}
 use Rattle.bk_image.proofs.put.put_holds.Goals as goal
 
 pub loop-hold-preserved : goal.loop-hold-preserved
@@ -13,6 +13,6 @@ loop-hold-preserved c =
     record {
       text = text_next hold_bytes all i one here c.args.out.now.items c.loop-hold.out.items c.put_path.new.out.items c.loop-hold.invariant.text (
           put_both c.loop-hold.out.items c.push.new.self.items c.put_path.new.out.items one.subject (one.modes.0 ∷ path_bytes one.path) c.in_ok-push.ensures.items
-          (put_both c.push.new.self.items c.push-in-loop-hold.new.self.items c.put_path.new.out.items one.modes.0 (path_bytes one.path) (c.in_ok-push-2.ensures.items ∙ ap (λ (b : ℕ). c.push.new.self.items ++ b ∷ []) (c.bits.ensures tt)) c.in_ok-put_path.ensures.text));
+          (put_both c.push.new.self.items c.push-in-loop-hold.new.self.items c.put_path.new.out.items one.modes.0 (path_bytes one.path) (put_same c.push.new.self.items c.push-in-loop-hold.new.self.items c.bits.result one.modes.0 c.in_ok-push-2.ensures.items (c.bits.ensures tt)) c.in_ok-put_path.ensures.text));
       fits = fits_next HoldFits all i one here c.loop-hold.invariant.fits c.put_path.ensures.fits;
     }
