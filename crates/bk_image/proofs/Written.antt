@@ -14,11 +14,11 @@ use Rattle.bk_image.specs.declared.fault.ImageField.TheVariants as field
 use Rattle.bk_image.specs.declared.fault.ImageStop.{ImageStop}
 use Rattle.bk_image.specs.Parts.{◌>>=◌, Gives}
 use Rattle.bk_image.specs.Image.{image_of}
-use Rattle.bk_image.specs.Spelling.{path_bytes, kind_bytes, row_bytes, level_bytes, subject_bytes, object_bytes, hold_bytes, header_bytes, header_of, spelling}
-use Rattle.bk_image.specs.Writing.{ObjectFits, Fits, windows_fit, blocks_fit, object_fits, counts_fit, sets_of, with_sets, as_read, written}
+use Rattle.bk_image.specs.Spelling.{kind_bytes, row_bytes, level_bytes, subject_bytes, object_bytes, hold_bytes, header_bytes, header_of, spelling}
+use Rattle.bk_image.specs.Writing.{ObjectFits, Fits, blocks_fit, object_fits, counts_fit, with_sets, as_read, written}
 use Rattle.bk_image.proofs.Takes.{bind_ok, ok_is}
 use Rattle.bk_image.proofs.Grown.{image_grows}
-use Rattle.bk_image.proofs.OnlyObjects.{RowFits, ObjectIsSpelt}
+use Rattle.bk_image.proofs.OnlyObjects.{ObjectIsSpelt}
 use Rattle.bk_image.proofs.OnlyImage.{IsWritable, spelling_only}
 
 and_first : (a b : Bool) → (a && b) ≡ true → a ≡ true

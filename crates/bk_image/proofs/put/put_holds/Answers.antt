@@ -1,4 +1,4 @@
-use Rattle.std.proofs.Common.{◌≡◌, ◌∷◌, ◌++◌, List, ℕ, ap, ◌∙◌, []}
+use Rattle.std.proofs.Common.{◌∷◌}
 use Rattle.bk_image.specs.Spelling.{hold_bytes, path_bytes}
 use Rattle.bk_image.specs.Writing.{HoldFits}
 use Rattle.bk_image.proofs.PutLemmas.{StandsAt, text_next, fits_next, put_same, put_both}
