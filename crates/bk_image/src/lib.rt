@@ -6,8 +6,8 @@
 //! `specs/Views.antt` says what the code keeps.
 //! Calls: `read_image`, `write_image`; `ImageField::text`; `law_no_prefix`.
 //! Proved: `read_image` gives exactly the image that the first bytes spell and their number, or exactly the first fault and
-//! its place; `write_image` gives exactly the spelling, or exactly why there is none; no image's bytes are a proper prefix of
-//! another's.
+//! its place; `write_image` gives exactly the spelling, which is read again whatever follows, or exactly why there is none;
+//! no image's bytes are a proper prefix of another's.
 //! Stands on: `bitflags`, `byteorder`, `bk_base`, `bk_level`, `bk_object`, `bk_path`, `bk_quota`, `bk_space`, `bk_state`.
 #![tactic(auto)]
 
