@@ -145,7 +145,7 @@ fn checked_bytes(alloc: Global, image: &Image) -> Result<Vec<u8>, ImageStop>
 pub fn write_image(alloc: Global, image: &Image) -> Result<Vec<u8>, ImageStop>
     // What is written, or why there is nothing to write.
     ensures exact { Gives (λ bytes. bytes.items) result (written image.now) }
-    // What is written is read again as the image, whatever follows it.
+    // What is written is read again as the image, each row as the list of its 32 sets, whatever follows it.
     ensures again { IfOk result (λ bytes. (more : List ℕ) → image_of (bytes.items ++ more) ≡ Ok (as_read image.now, length bytes.items)) }
 {
     checked_bytes(alloc, image)
