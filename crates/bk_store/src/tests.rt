@@ -8,7 +8,7 @@ ghost use Rattle.std.specs.Prelude.{◌≡◌, replicate};
 ghost use Rattle.bk_object.specs.Modes.{no_modes};
 
 use crate::Store;
-use allowed::{cell, create, delete_group, put_message, take_byte, take_message};
+use allowed::{cell, create, delete_group, put_message, take_byte, take_message, word, write_word};
 use bitflags::Flags;
 use bk_core::Core;
 use bk_level::{Level, LevelTable};
@@ -180,4 +180,52 @@ fn keeps_64_typed_bytes_of_a_line(rt: HostRuntime) {
         assert_eq!(rt; take_byte(&mut store, path), Some(Some(n)), "byte {n}");
     }
     assert_eq!(rt; take_byte(&mut store, path), Some(None));
+}
+
+// The directories 0 and 0/17 (octal) below root, and 31 segments in them: 30 of 128 blocks and one of 61. With them the whole
+// quota of 3,904 is used.
+fn fill(store: &mut Store, core: &mut Core) -> Option<Result<(), TreeNo>> {
+    let upper = Path::root().child(0)?;
+    let lower = upper.child(15)?;
+    for path in [upper, lower] {
+        if create(store, core, path, facts_of(Kind::Directory, 0, 0, 0))?.is_err() {
+            return None;
+        }
+    }
+    for n in 0..31u8 {
+        let path = if n < 15 {
+            upper.child(n)?
+        } else {
+            lower.child(n - 15)?
+        };
+        let blocks = if n < 30 { 128 } else { 61 };
+        let made = create(store, core, path, facts_of(Kind::Segment, blocks, 0, 0))?;
+        if made.is_err() {
+            return Some(made);
+        }
+    }
+    Some(Ok(()))
+}
+
+// All blocks that root's quota can pay for are taken, given back with one group, and taken again: the words that were there
+// are gone.
+#[test]
+fn fills_core_and_empties_it_and_fills_it_again(rt: HostRuntime) {
+    let mut core = Core::reserve(rt.alloc()).expect(&rt, "memory");
+    let mut store = begun(rt.alloc(), 3904).expect(&rt, "memory");
+    let upper = Path::root().child(0).expect(&rt, "one entry");
+    let first = upper.child(0).expect(&rt, "two entries");
+    let other = Path::root().child(1).expect(&rt, "one entry");
+    for _round in 0..2u8 {
+        assert_eq!(rt; fill(&mut store, &mut core), Some(Ok(())));
+        assert_eq!(rt; cell(&store, Path::root()).map(|cell| cell.used()), Some(3904));
+        let more = create(&mut store, &mut core, other, facts_of(Kind::Segment, 1, 0, 0));
+        assert_eq!(rt; more, Some(Err(TreeNo::Quota)));
+        assert_eq!(rt; word(&store, &core, first, 0o17776), Some(0));
+        assert_eq!(rt; write_word(&store, &mut core, first, 0o17776, 0o123), Some(()));
+        assert_eq!(rt; word(&store, &core, first, 0o17776), Some(0o123));
+        assert_eq!(rt; delete_group(&mut store, upper), Some(()));
+        assert_eq!(rt; cell(&store, Path::root()).map(|cell| cell.used()), Some(1));
+        assert!(rt; store.extent(first).is_none());
+    }
 }
