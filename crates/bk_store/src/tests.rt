@@ -218,11 +218,22 @@ fn fills_core_and_empties_it_and_fills_it_again(rt: HostRuntime) {
     let other = Path::root().child(1).expect(&rt, "one entry");
     for _round in 0..2u8 {
         assert_eq!(rt; fill(&mut store, &mut core), Some(Ok(())));
-        assert_eq!(rt; cell(&store, Path::root()).map(|cell| cell.used()), Some(3904));
-        let more = create(&mut store, &mut core, other, facts_of(Kind::Segment, 1, 0, 0));
+        assert_eq!(rt;
+            cell(&store, Path::root()).map(|cell| cell.used()),
+            Some(3904)
+        );
+        let more = create(
+            &mut store,
+            &mut core,
+            other,
+            facts_of(Kind::Segment, 1, 0, 0),
+        );
         assert_eq!(rt; more, Some(Err(TreeNo::Quota)));
         assert_eq!(rt; word(&store, &core, first, 0o17776), Some(0));
-        assert_eq!(rt; write_word(&store, &mut core, first, 0o17776, 0o123), Some(()));
+        assert_eq!(rt;
+            write_word(&store, &mut core, first, 0o17776, 0o123),
+            Some(())
+        );
         assert_eq!(rt; word(&store, &core, first, 0o17776), Some(0o123));
         assert_eq!(rt; delete_group(&mut store, upper), Some(()));
         assert_eq!(rt; cell(&store, Path::root()).map(|cell| cell.used()), Some(1));
