@@ -8,6 +8,7 @@ pub mod Spelt
 pub mod Steps
 pub mod SpeltImage
 pub mod Grown
+pub mod Cut
 pub mod SecureLists
 pub mod SecureFound
 pub mod SecureObjects
