@@ -3,3 +3,6 @@ pub mod Held
 pub mod InPlace
 pub mod Lines
 pub mod Turns
+pub mod Seen
+pub mod Written
+pub mod Alike
