@@ -1,8 +1,8 @@
-pub mod Objects
-pub mod Held
 pub mod InPlace
 pub mod Lines
 pub mod Turns
 pub mod Seen
 pub mod Written
 pub mod Alike
+pub mod Reflected
+pub mod Kept
