@@ -6,3 +6,4 @@ pub mod Turns
 pub mod Seen
 pub mod Written
 pub mod Alike
+pub mod Reflected

@@ -2,9 +2,11 @@
 -- store and core keep them, the subject, and what its windows show.
 use Rattle.std.specs.Prelude.{◌≡◌, ℕ, ◌*◌, ◌/◌, ◌<◌, false, List, [], length, take, Option, Some, None, Result, Ok, Err, slice_get}
 use Rattle.std.specs.FinMap as finite
-use Rattle.bk_space.specs.AddrSpace.{AddrSpace, Write, is_absent}
+use Rattle.bk_space.specs.AddrSpace.{AddrSpace, Write, is_absent, offset_of, page_number}
 use Rattle.bk_space.specs.declared.reference.Abort.{Abort}
 use Rattle.bk_space.specs.declared.reference.Rights.{Rights}
+use Rattle.bk_space.specs.declared.reference.Mode.TheVariants.{Supervisor}
+use Rattle.bk_space.specs.declared.reference.Space.TheVariants.{D}
 use Rattle.bk_space.specs.declared.reference.Width.{Width}
 use Rattle.bk_space.specs.declared.reference.Width.TheVariants.{Word, Byte}
 use Rattle.bk_path.specs.Paths.{Path, path_cmp}
@@ -76,10 +78,20 @@ pub record IsPageOf (t : Turning) (window : ℕ) (path : Path) (blocks : ℕ) (r
   pub inside : (offset : ℕ) → offset < 64 * blocks → HasOffset t.store path offset
 
 -- the window shows the segment at the path, and the word of the offset lies inside
+pub record IsIn (store : Stored) (windows : List (Option Path)) (window : ℕ) (path : Path) (offset : ℕ) : Type 0 where
+  pub at : slice_get windows window ≡ Some (Some path)
+  pub inside : HasOffset store path (offset / 2 * 2)
+
+-- the same, and the page has the words of the segment
 pub record Locates (t : Turning) (window : ℕ) (path : Path) (offset : ℕ) : Type 0 where
   pub at : slice_get t.windows window ≡ Some (Some path)
   pub words : (shown_in t window).words ≡ words_in (finite.get t.objects path)
   pub inside : HasOffset t.store path (offset / 2 * 2)
+
+-- the segments in which the words at the two addresses of supervisor D space stand
+pub record HasRoom (store : Stored) (windows : List (Option Path)) (first second : ℕ) (paths : Path × Path) : Type 0 where
+  pub upper : IsIn store windows (page_number Supervisor D first) paths.0 (offset_of first)
+  pub lower : IsIn store windows (page_number Supervisor D second) paths.1 (offset_of second)
 
 -- the word that a write leaves where another stood
 abbrev pub merged : Width → (addr value word : ℕ) → ℕ

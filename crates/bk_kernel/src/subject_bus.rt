@@ -1,13 +1,18 @@
 // The bus of the subject whose turn it is, over the store and core.
 
-ghost use Rattle.std.specs.Prelude.{◌≡◌, ◌<◌, ◌/◌, ◌*◌, ◌^◌, OnOk, OnErr, IfOk, IfSome, IfNone, Some, false, slice_get, slice_index, true};
+ghost use Rattle.std.specs.Prelude.{◌≡◌, ◌<◌, ◌/◌, ◌*◌, ◌^◌, OnOk, OnErr, IfOk, IfSome, IfNone, Some, false, is_some, slice_get, slice_index, true};
 ghost use Rattle.std.specs.FinMap as finmap;
 ghost use Rattle.bk_object.specs.Modes.{has, Read, Execute, Write as Writing};
-ghost use Rattle.bk_space.specs.AddrSpace.{Write, page_at, page_number, offset_of, refusal, unless};
+ghost use Rattle.bk_space.specs.AddrSpace.{Write, page_at, page_number, offset_of, refusal, unless, write_at};
+ghost use Rattle.bk_space.specs.Counts.{counted_on};
+ghost use Rattle.bk_space.specs.declared.reference.Mode.TheVariants.{Supervisor};
+ghost use Rattle.bk_space.specs.declared.reference.Space.TheVariants.{D};
+ghost use Rattle.bk_space.specs.declared.reference.Width.TheVariants.{Word};
+ghost use Rattle.bk_system.specs.Turn.{completes};
 ghost use Rattle.bk_space.specs.Widths.{bits_of};
 ghost use Rattle.bk_store.specs.Stored.{HasOffset, objects_of, word_at};
 ghost use Rattle.bk_system.specs.Space.{is_data, no_page, rights_by};
-ghost use Rattle.bk_kernel.specs.Turning.{Turning, abort_of, after_write, merged, shown_in, turning, IsPageOf, Locates};
+ghost use Rattle.bk_kernel.specs.Turning.{Turning, abort_of, after_write, merged, shown_in, turning, IsIn, IsPageOf, Locates};
 
 use bitflags::Flags;
 use bk_core::Core;
@@ -36,7 +41,7 @@ pub(crate) struct SubjectBus {
     pub(crate) subject: u8,
     /// How many references were made; the count stands at its last value.
     pub(crate) references: u64,
-    ghost few: { subject < 32 },
+    ghost within: { subject < 32 },
 }
 
 // What may be done in a window with what the subject holds by these modes.
@@ -170,8 +175,10 @@ impl SubjectBus {
     // Writes the value at the address in the segment that its window shows.
     fn put_in(&mut self, path: Path, mode: Mode, space: Space, width: Width, addr: u16, value: u16)
         requires fits { value < 2 ^ bits_of width }
-        requires located { Locates (turning self.old.store self.old.core.words self.old.subject self.old.windows) (page_number mode space addr) path (offset_of addr) }
+        requires located { IsIn self.old.store self.old.windows (page_number mode space addr) path (offset_of addr) }
         ensures written { turning self.new.store self.new.core.words self.new.subject self.new.windows ≡ after_write (turning self.old.store self.old.core.words self.old.subject self.old.windows) (record { mode = mode; space = space; width = width; addr = addr; value = value }) }
+        ensures store { self.new.store ≡ self.old.store }
+        ensures windows { self.new.windows ≡ self.old.windows }
         ensures count { self.new.references ≡ self.old.references }
     {
         let word = merged(width, addr, value, self.word(path, addr));
@@ -197,6 +204,32 @@ impl SubjectBus {
         let path = self.located(mode, space, width, addr, true)?;
         self.put_in(path, mode, space, width, addr, value);
         Ok(())
+    }
+
+    /// The segment in which the word at the address of supervisor D space can be written: None where it can't. To ask makes
+    /// no reference.
+    #[tactic(auto, unfolding(bk_space::specs::AddrSpace::write_at))]
+    pub(crate) fn writable(&self, addr: u16) -> Option<Path>
+        ensures test { is_some result ≡ completes (write_at (shown_in (turning self.now.store self.now.core.words self.now.subject self.now.windows)) Supervisor D Word addr) }
+        ensures located { IfSome result (λ path. IsIn self.now.store self.now.windows (page_number Supervisor D addr) path (offset_of addr)) }
+    {
+        match self.located(Mode::Supervisor, Space::D, Width::Word, addr, true) {
+            Ok(path) => Some(path),
+            Err(_) => None,
+        }
+    }
+
+    /// Writes the word at the address of supervisor D space, in the segment that `writable` answered, with one reference.
+    #[tactic(auto, unfolding(bk_space::specs::Counts::counted_on))]
+    pub(crate) fn push(&mut self, path: Path, addr: u16, value: u16)
+        requires { IsIn self.old.store self.old.windows (page_number Supervisor D addr) path (offset_of addr) }
+        ensures written { turning self.new.store self.new.core.words self.new.subject self.new.windows ≡ after_write (turning self.old.store self.old.core.words self.old.subject self.old.windows) (record { mode = Supervisor; space = D; width = Word; addr = addr; value = value }) }
+        ensures store { self.new.store ≡ self.old.store }
+        ensures windows { self.new.windows ≡ self.old.windows }
+        ensures count { self.new.references ≡ counted_on self.old.references 1 }
+    {
+        self.references = self.references.saturating_add(1);
+        self.put_in(path, Mode::Supervisor, Space::D, Width::Word, addr, value);
     }
 }
 
