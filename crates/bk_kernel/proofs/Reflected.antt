@@ -1,6 +1,5 @@
 -- Where there is room for the two words of a fault, and what their pushes leave.
-use Rattle.std.proofs.Common.{◌≡◌, ℕ, Bool, true, false, not, ◌&&◌, List, Option, Some, refl, sym, ap, subst, ◌∙◌}
-use Rattle.std.specs.Prelude.{◌==◌}
+use Rattle.std.proofs.Common.{◌≡◌, ℕ, Bool, false, ◌&&◌, List, Option, sym, ap, subst, ◌∙◌}
 use Rattle.bk_space.specs.AddrSpace.{AddrSpace, write_at}
 use Rattle.bk_space.specs.Status.{word_of}
 use Rattle.bk_space.specs.declared.reference.Mode.TheVariants.{Supervisor}
@@ -11,7 +10,7 @@ use Rattle.bk_process.specs.declared.process.Process.{Process}
 use Rattle.bk_state.specs.State.{State}
 use Rattle.bk_store.specs.Stored.{Stored}
 use Rattle.bk_store.specs.Stands.{StandsFor}
-use Rattle.bk_system.specs.Turn.{completes, is_reflected, is_user, is_writable, less, pushed, with_pushes}
+use Rattle.bk_system.specs.Turn.{completes, is_writable, less, pushed, with_pushes}
 use Rattle.bk_kernel.specs.Turning.{shown_in, turning}
 use Rattle.bk_kernel.proofs.Alike.{shown-space}
 
