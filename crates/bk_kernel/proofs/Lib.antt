@@ -3,3 +3,9 @@ pub mod Held
 pub mod InPlace
 pub mod Lines
 pub mod Turns
+pub mod Parts
+pub mod Mapped
+pub mod Fronts
+pub mod Takes
+pub mod Filled
+pub mod Loaded

@@ -4,3 +4,4 @@ pub mod Access
 pub mod Tables
 pub mod Items
 pub mod Progress
+pub mod Loading

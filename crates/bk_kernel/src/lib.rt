@@ -12,6 +12,7 @@ mod call;
 mod entry;
 mod first;
 mod kernel;
+mod loading;
 mod tables;
 mod turn;
 
