@@ -28,6 +28,8 @@ use Rattle.bk_image.proofs.Shares.{from_place}
 use Rattle.bk_store.specs.Stored.{Entry, NoQueue, Stored, begun, object_of, objects_of, with_held}
 use Rattle.bk_store.proofs.Stands.{get-objects_of}
 use Rattle.bk_store.proofs.Triples.{triple_apart}
+use Rattle.bk_kernel.specs.declared.beginning.Beginning.{Beginning}
+use Rattle.bk_kernel.specs.Beginning.{state_with, HasBegun}
 use Rattle.bk_kernel.specs.Loading.{with_holds, CanHold, HasFront, IsLoaded}
 use Rattle.bk_kernel.proofs.Fronts.{stands_at}
 
@@ -169,3 +171,19 @@ loaded image n v w words whole front held =
       levels = front.levels;
       lines = front.lines;
     })
+
+-- store, core and what is beside them are the image's state
+pub all_begun : (image : Image) (v : Stored) (words : List ℕ) (b : Beginning) → IsLoaded image v words → HasBegun image b → state_with v words b ≡ state_of image
+unfolding state_of
+all_begun image v words b store beside = λ i. record {
+  fixed = record {
+    levels = store.levels i;
+    subjects = beside.subjects i;
+    lines = beside.lines i;
+    turns = beside.turns i;
+    schedule = beside.schedule i;
+  };
+  objects = store.objects i;
+  access = store.access i;
+  processes = beside.processes i;
+}

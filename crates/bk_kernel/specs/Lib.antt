@@ -5,3 +5,4 @@ pub mod Tables
 pub mod Items
 pub mod Progress
 pub mod Loading
+pub mod Beginning

@@ -4,9 +4,10 @@
 //! Calls: `Kernel::boot`, `turn`, `end_slot`, `slot`, `summary`, `status`.
 //! Proved: each turn and each slot is the defined one, items and references included, and a slot writes the text of its
 //! items; after `boot` no call takes memory.
-//! Stands on: `bk_report`, `bk_system`.
+//! Stands on: `bk_image`, `bk_report`, `bk_store`, `bk_system`.
 #![tactic(auto)]
 
+mod beginning;
 mod boot;
 mod call;
 mod entry;

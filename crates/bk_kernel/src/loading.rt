@@ -5,9 +5,11 @@ ghost use Rattle.std.specs.FinMap as map;
 ghost use Rattle.bk_image.specs.Accepted.{IsAccepted};
 ghost use Rattle.bk_image.specs.Objects.{room};
 ghost use Rattle.bk_kernel.specs.Loading.{with_holds, CanHold, CanTake, HasFront, HasOneMore, IsLoaded};
-ghost use Rattle.bk_state.specs.Start.{object_from};
+ghost use Rattle.bk_kernel.specs.Beginning.{state_with};
+ghost use Rattle.bk_state.specs.Start.{object_from, state_of};
 ghost use Rattle.bk_store.specs.Stored.{fresh, objects_of, HasOffset, IsCreated};
 
+use crate::beginning::Beginning;
 use bk_base::NoMemory;
 use bk_core::Core;
 use bk_state::{Hold, Image, ObjectRec};
@@ -84,4 +86,14 @@ pub(crate) fn load(alloc: Global, image: &Image) -> Result<(Store, Core), NoMemo
     load_objects(&mut store, &mut core, image);
     load_holds(&mut store, image.holds.as_slice());
     Ok((store, core))
+}
+
+/// All of an accepted image's state: the store, the core and what is beside them.
+pub(crate) fn begin(alloc: Global, image: &Image) -> Result<(Store, Core, Beginning), NoMemory>
+    requires { IsAccepted image.now }
+    ensures { IfOk result (λ begun. state_with begun.0 begun.1.words begun.2 ≡ state_of image.now) }
+{
+    let (store, core) = load(alloc, image)?;
+    let beginning = Beginning::from_image(alloc, image)?;
+    Ok((store, core, beginning))
 }
