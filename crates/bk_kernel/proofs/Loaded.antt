@@ -3,6 +3,7 @@ use Rattle.std.proofs.Common.{◌≡◌, ℕ, ◌+◌, ◌<◌, ◌≤◌, Bool,
 use Rattle.std.proofs.Math.Seq.{take-length}
 use Rattle.std.proofs.lemmas.List.{get_or_default}
 use Rattle.std.proofs.lemmas.List.Folds.{list_any-append}
+use Rattle.std.proofs.lemmas.List.FromFn.{length-map-range_with_len}
 use Rattle.std.specs.Prelude.{option_map, flat_map, All}
 use Rattle.std.specs.List.{list_any}
 use Rattle.std.specs.Ordering.{eq_by_cmp}
@@ -15,7 +16,7 @@ use Rattle.bk_object.specs.declared.kind.Kind.TheVariants.{Directory, Segment, M
 use Rattle.bk_path.specs.Paths.{Path, path_cmp, is_root}
 use Rattle.bk_path.specs.Orders.{path_total, path_apart}
 use Rattle.bk_state.specs.State.{Object, Children, Triple, triple_cmp}
-use Rattle.bk_state.specs.Start.{contents_from, object_from, state_of, triples_from}
+use Rattle.bk_state.specs.Start.{contents_from, line_level, object_from, state_of, triples_from}
 use Rattle.bk_state.specs.declared.image.Hold.{Hold}
 use Rattle.bk_state.specs.declared.image.Image.{Image}
 use Rattle.bk_state.specs.declared.image.ObjectRec.{ObjectRec}
@@ -25,6 +26,7 @@ use Rattle.bk_image.specs.Objects.{objects_in, facts_at, fits_cell, fits_kind, h
 use Rattle.bk_image.proofs.SecureLists.{Stands, lt_of, not_false, not_true, within, zero_of}
 use Rattle.bk_image.proofs.SecureObjects.{checked_at, root_stands}
 use Rattle.bk_image.proofs.Shares.{from_place}
+use Rattle.bk_store.specs.Stands.{StandsFor}
 use Rattle.bk_store.specs.Stored.{Entry, NoQueue, Stored, begun, object_of, objects_of, with_held}
 use Rattle.bk_store.proofs.Stands.{get-objects_of}
 use Rattle.bk_store.proofs.Triples.{triple_apart}
@@ -186,4 +188,14 @@ all_begun image v words b store beside = λ i. record {
   objects = store.objects i;
   access = store.access i;
   processes = beside.processes i;
+}
+
+-- the store stands for the image's state
+pub stands_loaded : (image : Image) (v : Stored) (words : List ℕ) → IsLoaded image v words → StandsFor v words (state_of image)
+unfolding state_of
+stands_loaded image v words store = record {
+  levels = store.levels;
+  lines = store.lines ∙ sym (length-map-range_with_len (line_level image.objects) 0 image.lines);
+  objects = store.objects;
+  access = store.access;
 }

@@ -7,7 +7,8 @@ ghost use Rattle.bk_image.specs.Objects.{room};
 ghost use Rattle.bk_kernel.specs.Loading.{with_holds, CanHold, CanTake, HasFront, HasOneMore, IsLoaded};
 ghost use Rattle.bk_kernel.specs.Beginning.{state_with};
 ghost use Rattle.bk_state.specs.Start.{object_from, state_of};
-ghost use Rattle.bk_store.specs.Stored.{fresh, objects_of, HasOffset, IsCreated};
+ghost use Rattle.bk_store.specs.Stands.{StandsFor};
+ghost use Rattle.bk_store.specs.Stored.{fresh, objects_of, IsCreated};
 
 use crate::beginning::Beginning;
 use bk_base::NoMemory;
@@ -88,10 +89,12 @@ pub(crate) fn load(alloc: Global, image: &Image) -> Result<(Store, Core), NoMemo
     Ok((store, core))
 }
 
-/// All of an accepted image's state: the store, the core and what is beside them.
+/// All of an accepted image's state: the store, the core and what is beside them. `NoMemory` comes where the host has no
+/// more.
 pub(crate) fn begin(alloc: Global, image: &Image) -> Result<(Store, Core, Beginning), NoMemory>
     requires { IsAccepted image.now }
-    ensures { IfOk result (λ begun. state_with begun.0 begun.1.words begun.2 ≡ state_of image.now) }
+    ensures state { IfOk result (λ begun. state_with begun.0 begun.1.words begun.2 ≡ state_of image.now) }
+    ensures stands { IfOk result (λ begun. StandsFor begun.0 begun.1.words (state_of image.now)) }
 {
     let (store, core) = load(alloc, image)?;
     let beginning = Beginning::from_image(alloc, image)?;
