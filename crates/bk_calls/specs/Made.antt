@@ -3,7 +3,9 @@ use Rattle.std.specs.Prelude.{◌≡◌, ℕ, List, [], Option, Some, None, nat_
 use Rattle.bk_process.specs.declared.process.Process.{Process}
 use Rattle.bk_state.specs.State.{State}
 use Rattle.bk_state.specs.Checks.{Cause, cause_number}
-use Rattle.bk_state.specs.Answers.{Called}
+use Rattle.bk_state.specs.declared.call.Call.{Call}
+use Rattle.bk_state.specs.Calls.{call_refusal}
+use Rattle.bk_state.specs.Answers.{Called, answered_by}
 use Rattle.bk_store.specs.Stored.{Stored, objects_of}
 use Rattle.bk_calls.specs.declared.caller.Caller.{Caller}
 use Rattle.bk_calls.specs.declared.reply.Answer.{Answer}
@@ -45,3 +47,16 @@ pub record IsMade (before after : Stored) (words_before words_after : List ℕ) 
   pub answer : reply.answer ≡ answer_of x.cause
   pub sent : reply.sent ≡ option_map line_byte x.sent
   pub kernel : take 2048 words_after ≡ take 2048 words_before
+
+-- what a call by the caller comes to
+abbrev pub made_by : Caller → Stored → (words : List ℕ) → Process → Call → Called
+made_by caller store words process call =
+    answered_by (seen_by caller store words) caller.subject process call (call_refusal (seen_by caller store words) caller.subject call process.registers.general)
+
+-- over every store and core, what was made of the process, and the reply, are what the call by the caller comes to
+abbrev pub IsMadeWithin : Caller → (before after : Process) → Reply → Call → Type 0
+IsMadeWithin caller before after reply call = (store : Stored) (words : List ℕ) → IsMade store store words words after reply (made_by caller store words before call)
+
+-- and by whoever calls
+abbrev pub IsMadeAlone : (before after : Process) → Reply → Call → Type 0
+IsMadeAlone before after reply call = (caller : Caller) → IsMadeWithin caller before after reply call

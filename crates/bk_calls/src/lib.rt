@@ -4,12 +4,27 @@
 //! Calls: `call`.
 //! Proved: a call makes exactly what the definition of its number gives: the first check that fails and its answer, or the
 //! change of objects, accesses and process, the values in the registers, and the byte sent; core below block 64 stays.
-//! Stands on: `bk_core`, `bk_level`, `bk_object`, `bk_path`, `bk_process`, `bk_queue`, `bk_quota`, `bk_rules`, `bk_space`,
-//! `bk_state`, `bk_store`.
+//! Stands on: `bitflags`, `bk_base`, `bk_core`, `bk_frames`, `bk_level`, `bk_object`, `bk_path`, `bk_process`, `bk_queue`,
+//! `bk_quota`, `bk_rules`, `bk_space`, `bk_state`, `bk_store`, `bk_tree`.
 #![tactic(auto)]
 
+mod answering;
+mod asking;
 mod caller;
+mod calls;
+mod causes;
+mod directories;
+mod facts;
+mod lines;
+mod mail;
+mod new_object;
+mod process;
+mod reach;
 mod reply;
+mod rules;
+mod segments;
+mod windows;
 
 pub use caller::Caller;
+pub use calls::call;
 pub use reply::{Answer, LineByte, Reply};

@@ -247,6 +247,13 @@ impl Store {
         }
     }
 
+    /// There are at most 64 levels.
+    pub fn law_levels(&self)
+        ensures { length self.now.levels ≤ 64 }
+    {
+        let _count = self.levels.len();
+    }
+
     /// A segment has so many blocks as its facts say, within blocks 64 to 3,967 and apart from those of all other
     /// segments; messages wait in mailboxes alone, and bytes on lines alone.
     pub fn law_contents(&self)

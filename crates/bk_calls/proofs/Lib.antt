@@ -1,0 +1,12 @@
+pub mod Seen
+pub mod HeldBits
+pub mod RuleChecks
+pub mod Reaching
+pub mod Serving
+pub mod Served
+pub mod Mailboxes
+pub mod Deposited
+pub mod TypedBytes
+pub mod Told
+pub mod RuleChanges
+pub mod NewObjects

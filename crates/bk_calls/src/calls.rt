@@ -1,0 +1,131 @@
+// A kernel call, by its number.
+
+ghost use Rattle.std.specs.Prelude.{◌≡◌, ◌<◌, ◌≤◌, length};
+ghost use Rattle.bk_state.specs.Answers.{called};
+ghost use Rattle.bk_state.specs.Calls as model;
+ghost use Rattle.bk_calls.specs.Made.{made_by, seen_by, IsMade};
+
+use crate::answering::refuse;
+use crate::caller::Caller;
+use crate::causes::NO_CALL;
+use crate::directories::{entry, quota};
+use crate::lines::{line_in, line_out};
+use crate::mail::{receive, send};
+use crate::process::{identify, pause, set_fault_entry, stop, unwindow};
+use crate::reply::Reply;
+use crate::rules::{create, delete_group, get, give, release, rescind};
+use crate::segments::deposit;
+use crate::windows::window;
+use bk_core::Core;
+use bk_process::Process;
+use bk_state::{Call, Rule, Service};
+use bk_store::Store;
+
+/// The call of that number, by the caller, with its registers as they are in the process: the checks in their order, the
+/// first that fails being the cause; on yes the call's change, and its values in the registers. A refused call changes R0
+/// and R1 alone. No memory is taken, and core blocks 0 to 63 keep their words.
+pub fn call(
+    store: &mut Store,
+    core: &mut Core,
+    process: &mut Process,
+    caller: &Caller,
+    number: u8,
+) -> Reply
+    requires subject { caller.now.subject < caller.now.subjects }
+    requires subjects { caller.now.subjects ≤ 32 }
+    requires greatest { caller.now.f_s < length store.old.levels }
+    requires current { caller.now.f_c < length store.old.levels }
+    ensures { IsMade store.old store.new core.old.words core.new.words process.new result (called (seen_by caller.now store.old core.old.words) caller.now.subject process.old number) }
+{
+    match call_of(number) {
+        Some(Call::ByRule(rule)) => decide_rule(store, core, process, caller, rule),
+        Some(Call::Other(service)) => serve(store, core, process, caller, service),
+        None => refuse(process, NO_CALL),
+    }
+}
+
+// The call with the number: None for 0 and from 27 (octal) on.
+fn call_of(number: u8) -> Option<Call>
+    ensures { result ≡ model.call_of number }
+{
+    match number {
+        0o1 => Some(Call::ByRule(Rule::GetRead)),
+        0o2 => Some(Call::ByRule(Rule::GetAppend)),
+        0o3 => Some(Call::ByRule(Rule::GetExecute)),
+        0o4 => Some(Call::ByRule(Rule::GetWrite)),
+        0o5 => Some(Call::ByRule(Rule::Release)),
+        0o6 => Some(Call::ByRule(Rule::Give)),
+        0o7 => Some(Call::ByRule(Rule::Rescind)),
+        0o10 => Some(Call::ByRule(Rule::Create)),
+        0o11 => Some(Call::ByRule(Rule::DeleteGroup)),
+        0o12 => Some(Call::Other(Service::Window)),
+        0o13 => Some(Call::Other(Service::Unwindow)),
+        0o14 => Some(Call::Other(Service::Deposit)),
+        0o15 => Some(Call::Other(Service::Send)),
+        0o16 => Some(Call::Other(Service::Receive)),
+        0o17 => Some(Call::Other(Service::LineOut)),
+        0o20 => Some(Call::Other(Service::LineIn)),
+        0o21 => Some(Call::Other(Service::Entry)),
+        0o22 => Some(Call::Other(Service::Identify)),
+        0o23 => Some(Call::Other(Service::Quota)),
+        0o24 => Some(Call::Other(Service::Pause)),
+        0o25 => Some(Call::Other(Service::SetFaultEntry)),
+        0o26 => Some(Call::Other(Service::Stop)),
+        _ => None,
+    }
+}
+
+// A call of one of the nine rules.
+fn decide_rule(
+    store: &mut Store,
+    core: &mut Core,
+    process: &mut Process,
+    caller: &Caller,
+    rule: Rule,
+) -> Reply
+    requires subject { caller.now.subject < caller.now.subjects }
+    requires subjects { caller.now.subjects ≤ 32 }
+    requires greatest { caller.now.f_s < length store.old.levels }
+    requires current { caller.now.f_c < length store.old.levels }
+    ensures { IsMade store.old store.new core.old.words core.new.words process.new result (made_by caller.now store.old core.old.words process.old (Call.ByRule rule)) }
+{
+    match rule {
+        Rule::GetRead | Rule::GetAppend | Rule::GetExecute | Rule::GetWrite => {
+            get(store, process, caller, rule)
+        }
+        Rule::Release => release(store, process, caller),
+        Rule::Give => give(store, process, caller),
+        Rule::Rescind => rescind(store, process, caller),
+        Rule::Create => create(store, core, process, caller),
+        Rule::DeleteGroup => delete_group(store, process, caller),
+    }
+}
+
+// A call of another service.
+fn serve(
+    store: &mut Store,
+    core: &mut Core,
+    process: &mut Process,
+    caller: &Caller,
+    service: Service,
+) -> Reply
+    requires subject { caller.now.subject < caller.now.subjects }
+    requires subjects { caller.now.subjects ≤ 32 }
+    ensures { IsMade store.old store.new core.old.words core.new.words process.new result (made_by caller.now store.old core.old.words process.old (Call.Other service)) }
+{
+    match service {
+        Service::Window => window(store, process, caller),
+        Service::Unwindow => unwindow(process),
+        Service::Deposit => deposit(store, core, process, caller),
+        Service::Send => send(store, process, caller),
+        Service::Receive => receive(store, process, caller),
+        Service::LineOut => line_out(store, process, caller),
+        Service::LineIn => line_in(store, process, caller),
+        Service::Entry => entry(store, process, caller),
+        Service::Identify => identify(process, caller),
+        Service::Quota => quota(store, process, caller),
+        Service::Pause => pause(process),
+        Service::SetFaultEntry => set_fault_entry(process),
+        Service::Stop => stop(process),
+    }
+}

@@ -1,0 +1,107 @@
+// What the rules look at, of an object and of its parent.
+
+ghost use Rattle.std.specs.Prelude.{◌≡◌, ◌<◌, ◌≤◌, ℕ, List, length, option_map, unwrap_or};
+ghost use Rattle.bk_level.specs.Levels.{level_at, lowest};
+ghost use Rattle.bk_object.specs.Modes.{no_modes};
+ghost use Rattle.bk_object.specs.Rows.{in_row};
+ghost use Rattle.bk_path.specs.Paths.{is_root, parent};
+ghost use Rattle.bk_state.specs.Checks.{Request};
+ghost use Rattle.bk_calls.specs.Decided.{facts_there};
+ghost use Rattle.bk_calls.specs.Made.{seen_by};
+
+use crate::asking::{is_named, writes};
+use crate::caller::Caller;
+use bitflags::Flags;
+use bk_level::Level;
+use bk_object::{Facts, Kind, Modes};
+use bk_path::Path;
+use bk_rules::{Rule, RuleFacts};
+use bk_store::Store;
+
+/// What every rule but create looks at, for the object at the path and these modes; of a new object nothing is said.
+pub(crate) fn facts_there(store: &Store, caller: &Caller, path: Path, modes: Modes) -> RuleFacts
+    requires subject { caller.now.subject < caller.now.subjects }
+    requires subjects { caller.now.subjects ≤ 32 }
+    requires greatest { caller.now.f_s < length store.now.levels }
+    requires current { caller.now.f_c < length store.now.levels }
+    ensures { (words : List ℕ) (rule : Rule) (request : Request) → request.path ≡ path → request.modes ≡ modes →
+        result ≡ facts_there (seen_by caller.now store.now words) caller.now.subject rule request }
+{
+    let object = store.facts(path);
+    RuleFacts {
+        named: is_named(store, caller.subject, path),
+        there: object.is_some(),
+        root: is_root(path),
+        kind: kind_of(object),
+        row: row_of(object, caller.subject),
+        f_s: level_at(store, caller.f_s),
+        f_c: level_at(store, caller.f_c),
+        f_o: level_of(store, object),
+        parent_write: writes(store, caller.subject, parent_of(path)),
+        parent_level: lowest(),
+        new_level: lowest(),
+        taken: object.is_some(),
+        fits: false,
+        modes,
+    }
+}
+
+// Whether the path is root.
+pub(crate) fn is_root(path: Path) -> bool
+    ensures { result ≡ is_root path }
+{
+    path.depth() == 0
+}
+
+// The path without its last entry; root stays root.
+pub(crate) fn parent_of(path: Path) -> Path
+    ensures { result ≡ parent path }
+{
+    path.parent().unwrap_or(path)
+}
+
+// What the object is; a directory where there is none.
+fn kind_of(object: Option<Facts>) -> Kind
+    ensures { result ≡ unwrap_or (option_map (λ facts. facts.kind) object) Kind.Directory }
+{
+    match object {
+        Some(facts) => facts.kind,
+        None => Kind::Directory,
+    }
+}
+
+// The subject's modes in the object's row; none where there is no object.
+fn row_of(object: Option<Facts>, subject: u8) -> Modes
+    requires { subject < 32 }
+    ensures { result ≡ unwrap_or (option_map (λ facts. in_row facts.row subject) object) no_modes }
+{
+    match object {
+        Some(facts) => facts.row.get(subject),
+        None => Modes::from_bits_retain(0),
+    }
+}
+
+// The object's level; the lowest where there is no object.
+pub(crate) fn level_of(store: &Store, object: Option<Facts>) -> Level
+    ensures { result ≡ unwrap_or (option_map (λ facts. level_at store.now.levels facts.level) object) lowest }
+{
+    match object {
+        Some(facts) => level_at(store, facts.level),
+        None => lowest(),
+    }
+}
+
+// The level with that number; the lowest where the list has none.
+pub(crate) fn level_at(store: &Store, n: u8) -> Level
+    ensures { result ≡ level_at store.now.levels n }
+{
+    store.level(n).unwrap_or(lowest())
+}
+
+// The level that stands for none.
+#[tactic(auto, unfolding(bk_level::specs::Masks::categories_of))]
+pub(crate) fn lowest() -> Level
+    ensures { result ≡ lowest }
+{
+    Level { class: 0, cats: 0 }
+}
