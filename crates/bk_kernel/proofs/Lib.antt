@@ -5,4 +5,10 @@ pub mod Seen
 pub mod Written
 pub mod Alike
 pub mod Reflected
+pub mod Parts
+pub mod Mapped
+pub mod Fronts
+pub mod Takes
+pub mod Filled
+pub mod Loaded
 pub mod Kept

@@ -7,8 +7,8 @@
 //! Stands on: `bk_calls`, `bk_core`, `bk_cpu`, `bk_image`, `bk_report`, `bk_store`, `bk_system`.
 #![tactic(auto)]
 
+mod beginning;
 mod boot;
-mod calling;
 mod instruction;
 mod kernel;
 mod loading;

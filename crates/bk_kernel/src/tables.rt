@@ -10,11 +10,11 @@ ghost use Rattle.bk_system.specs.Space.{space_of};
 ghost use Rattle.bk_system.specs.Turn.{with_process, written, entered, is_reflected, with_pushes};
 ghost use Rattle.bk_system.specs.Slot.{all_arrived, arrived, slot_ended, subject_of, with_resumed};
 
-use crate::calling::call;
+
 use crate::instruction::run_one;
 use crate::reflection::reflect;
 use crate::subject_bus::SubjectBus;
-use bk_calls::{Caller, Reply};
+use bk_calls::{Caller, Reply, call};
 use bk_exec::Event;
 use bk_path::Path;
 use bk_process::{Process, Status9};

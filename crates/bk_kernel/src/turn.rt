@@ -10,7 +10,7 @@ ghost use Rattle.bk_exec.specs.Exec.{exec};
 ghost use Rattle.bk_calls.specs.Made.{answer_of, line_byte};
 ghost use Rattle.bk_system.specs.Space.{space_of};
 ghost use Rattle.bk_system.specs.Turn.{answer_in, cause_in, byte_item, settled, fault_number, is_reflected, faulted, ended, took, turn_of};
-ghost use Rattle.std.specs.Prelude.{ℕ, Option, ◌×◌, slice_index};
+ghost use Rattle.std.specs.Prelude.{ℕ, Option, slice_index};
 ghost use Rattle.bk_kernel.specs.Items.{items_of};
 
 use crate::tables::{Executed, Tables};
