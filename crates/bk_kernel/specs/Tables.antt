@@ -1,6 +1,5 @@
 -- The state that the kernel keeps: the objects and the current access set by store and core, the rest in lists.
 use Rattle.std.specs.Prelude.{◌≡◌, ◌<◌, ◌≤◌, ℕ, List, All, length}
-use Rattle.bk_level.specs.Levels.{Level}
 use Rattle.bk_process.specs.declared.process.Process.{Process}
 use Rattle.bk_state.specs.State.{State}
 use Rattle.bk_state.specs.declared.clearance.Clearance.{Clearance}

@@ -9,6 +9,7 @@
 
 mod beginning;
 mod boot;
+mod faulting;
 mod instruction;
 mod kernel;
 mod loading;

@@ -1,23 +1,23 @@
 // The state that the kernel keeps: what is fixed, store and core, and the processes.
 
-ghost use Rattle.std.specs.Prelude.{◌≡◌, ◌<◌, ◌≤◌, [], ◌∷◌, length, map, option_map, slice_get, if◌then◌else◌};
+ghost use Rattle.std.specs.Prelude.{◌≡◌, ◌<◌, ◌≤◌, [], ◌∷◌, length, map, option_map, slice_index, if◌then◌else◌};
+ghost use Rattle.bk_process.specs.declared.status.Status9.TheVariants.{Stopped};
 ghost use Rattle.bk_space.specs.AddrSpace.{applied};
 ghost use Rattle.bk_exec.specs.Exec.{exec};
 ghost use Rattle.bk_state.specs.State.{process_of};
 ghost use Rattle.bk_state.specs.Answers.{called};
 ghost use Rattle.bk_calls.specs.Made.{answer_of, line_byte};
 ghost use Rattle.bk_system.specs.Space.{space_of};
-ghost use Rattle.bk_system.specs.Turn.{with_process, written, entered, is_reflected, with_pushes};
+ghost use Rattle.bk_system.specs.Turn.{with_process, written, entered, fault_number, is_reflected, with_pushes};
 ghost use Rattle.bk_system.specs.Slot.{all_arrived, arrived, slot_ended, subject_of, with_resumed};
 
-
+use crate::faulting::{Faulted, fault};
 use crate::instruction::run_one;
-use crate::reflection::reflect;
 use crate::subject_bus::SubjectBus;
 use bk_calls::{Caller, Reply, call};
 use bk_exec::Event;
-use bk_path::Path;
 use bk_process::{Process, Status9};
+use bk_space::Cause;
 use bk_state::Clearance;
 use bk_system::TypedAt;
 use std::marker::Model;
@@ -108,7 +108,7 @@ impl Tables {
         ensures references { result.references ≡ (exec (space_of self.old subject process.old.windows) process.old.registers).references }
         ensures few { result.references ≤ 8 }
     {
-        aim(&mut self.bus, subject, process.windows);
+        aim(&mut self.bus, subject, *process);
         let event = run_one(&mut self.bus, &mut process.registers);
         Executed {
             event,
@@ -140,28 +140,31 @@ impl Tables {
         )
     }
 
-    /// A fault of the subject is taken at the entry, where its process takes it there. Else nothing changes.
-    pub(crate) fn reflect(&mut self, subject: u8, process: &mut Process, entry: u16) -> bool
+    /// A fault of the subject, which its process takes at its entry, or which stops it.
+    pub(crate) fn fault(&mut self, subject: u8, process: &mut Process, cause: Cause) -> Faulted
         requires { subject < length self.old.processes }
-        ensures answer { result ≡ is_reflected self.old subject process.old entry }
-        ensures process { process.new ≡ (if result then entered process.old entry else process.old) }
-        ensures state { self.new ≡ (if result then with_pushes self.old process.old else self.old) }
+        ensures number { result.number ≡ fault_number cause }
+        ensures pc { result.pc ≡ process.old.registers.pc }
+        ensures taken { result.taken ≡ is_reflected self.old subject process.old (slice_index process.old.entries (fault_number cause)) }
+        ensures process { process.new ≡ (if result.taken then entered process.old (slice_index process.old.entries (fault_number cause)) else record process.old { status = Stopped (fault_number cause) }) }
+        ensures state { self.new ≡ (if result.taken then with_pushes self.old process.old else self.old) }
     {
-        aim(&mut self.bus, subject, process.windows);
-        reflect(&mut self.bus, process, entry)
+        aim(&mut self.bus, subject, *process);
+        fault(&mut self.bus, process, cause)
     }
 }
 
-// The bus is of this subject, whose windows show these paths, and has made no reference.
-fn aim(bus: &mut SubjectBus, subject: u8, windows: [Option<Path>; 32])
+// The bus is of this subject, with the windows of its process, and has made no reference.
+fn aim(bus: &mut SubjectBus, subject: u8, process: Process)
     requires { subject < 32 }
     ensures store { bus.new.store ≡ bus.old.store }
     ensures core { bus.new.core ≡ bus.old.core }
     ensures subject { bus.new.subject ≡ subject }
-    ensures windows { bus.new.windows ≡ windows }
+    ensures windows { bus.new.windows ≡ process.windows }
     ensures references { bus.new.references ≡ 0 }
 {
     bus.subject = subject;
+    let windows = process.windows;
     bus.windows = windows;
     bus.references = 0;
 }

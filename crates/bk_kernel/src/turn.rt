@@ -3,16 +3,16 @@
 ghost use Rattle.std.specs.Prelude.{◌≡◌, ◌<◌, ◌≤◌, ◌+◌, [], All, length, option_map, option_to_list};
 ghost use Rattle.bk_report.specs.Text.{IsAnswered};
 ghost use Rattle.bk_report.specs.declared.item.ReportItem.TheVariants.{Call, Fault};
-ghost use Rattle.bk_process.specs.declared.status.Status9.TheVariants.{Stopped};
 ghost use Rattle.bk_state.specs.Answers.{called};
 ghost use Rattle.bk_state.specs.Checks.{Cause as Refusal};
 ghost use Rattle.bk_exec.specs.Exec.{exec};
 ghost use Rattle.bk_calls.specs.Made.{answer_of, line_byte};
 ghost use Rattle.bk_system.specs.Space.{space_of};
 ghost use Rattle.bk_system.specs.Turn.{answer_in, cause_in, byte_item, settled, fault_number, is_reflected, faulted, ended, took, turn_of};
-ghost use Rattle.std.specs.Prelude.{ℕ, Option, slice_index};
+ghost use Rattle.std.specs.Prelude.{ℕ, Option, slice_index, if◌then◌else◌};
 ghost use Rattle.bk_kernel.specs.Items.{items_of};
 
+use crate::faulting::Faulted;
 use crate::tables::{Executed, Tables};
 use bk_calls::{Answer, LineByte};
 use bk_exec::Event;
@@ -75,42 +75,27 @@ fn byte_item(at: At, sent: Option<LineByte>) -> Option<ReportItem>
     }
 }
 
-// The faults by their numbers.
-fn fault_number(cause: Cause) -> u8
-    ensures number { result ≡ fault_number cause }
-    ensures within { result < 8 }
-{
-    match cause {
-        Cause::Odd => 0,
-        Cause::NonResident => 1,
-        Cause::Length => 2,
-        Cause::ReadOnly => 3,
-        Cause::Reserved => 4,
-        Cause::Break => 5,
-        Cause::Iot => 6,
-        Cause::Trap => 7,
-    }
-}
-
-fn fault_item(at: At, cause: u8, pc: u16, entered: bool) -> ReportItem
-    ensures item { result ≡ Fault at.slot at.turn at.subject cause pc entered }
+// The item of a fault.
+fn fault_item(at: At, fault: Faulted) -> ReportItem
+    ensures item { result ≡ Fault at.slot at.turn at.subject fault.number fault.pc fault.taken }
     ensures answered { IsAnswered result }
 {
     ReportItem::Fault {
         slot: at.slot,
         turn: at.turn,
         subject: at.subject,
-        cause,
-        pc,
-        entered,
+        cause: fault.number,
+        pc: fault.pc,
+        entered: fault.taken,
     }
 }
 
-fn stopped(mut process: Process, cause: u8) -> Process
-    ensures { result ≡ record process { status = Stopped cause } }
+// The references of a fault.
+fn pushes(taken: bool) -> u64
+    ensures value { result ≡ (if taken then 2 else 0) }
+    ensures few { result ≤ 2 }
 {
-    process.status = Status9::Stopped(cause);
-    process
+    if taken { 2 } else { 0 }
 }
 
 fn idle() -> Turned
@@ -135,46 +120,26 @@ impl Tables {
         let reply = self.call(at.subject, &mut after, number);
         self.set_process(at.subject, after);
         (
-            Some(call_item(
-                at,
-                number,
-                process.registers.general,
-                reply.answer,
-            )),
+            Some(call_item(at, number, process.registers.general, reply.answer)),
             byte_item(at, reply.sent),
         )
     }
 
-    // A fault, which the process takes at its entry, or which stops it.
-    fn fault(&mut self, at: At, process: Process, number: u8, references: u64) -> Turned
+    // A fault, which the process takes at its entry with two references, or which stops it.
+    fn end_in(&mut self, at: At, process: Process, cause: Cause, references: u64) -> Turned
         requires there { at.subject < length self.old.processes }
-        requires number { number < 8 }
         requires few { references ≤ 8 }
-        ensures state { self.new ≡ (faulted self.old at.slot at.turn at.subject process number references (slice_index process.entries number) (is_reflected self.old at.subject process (slice_index process.entries number))).state }
-        ensures items { items_of result.items ≡ (faulted self.old at.slot at.turn at.subject process number references (slice_index process.entries number) (is_reflected self.old at.subject process (slice_index process.entries number))).items }
-        ensures references { result.references ≡ (faulted self.old at.slot at.turn at.subject process number references (slice_index process.entries number) (is_reflected self.old at.subject process (slice_index process.entries number))).references }
+        ensures state { self.new ≡ (faulted self.old at.slot at.turn at.subject process (fault_number cause) references (slice_index process.entries (fault_number cause)) (is_reflected self.old at.subject process (slice_index process.entries (fault_number cause)))).state }
+        ensures items { items_of result.items ≡ (faulted self.old at.slot at.turn at.subject process (fault_number cause) references (slice_index process.entries (fault_number cause)) (is_reflected self.old at.subject process (slice_index process.entries (fault_number cause)))).items }
+        ensures references { result.references ≡ (faulted self.old at.slot at.turn at.subject process (fault_number cause) references (slice_index process.entries (fault_number cause)) (is_reflected self.old at.subject process (slice_index process.entries (fault_number cause)))).references }
         ensures answered { All IsAnswered (items_of result.items) }
     {
-        let entry = process.entries[number as usize];
         let mut after = process;
-        if self.reflect(at.subject, &mut after, entry) {
-            self.set_process(at.subject, after);
-            Turned {
-                items: (
-                    Some(fault_item(at, number, process.registers.pc, true)),
-                    None,
-                ),
-                references: references + 2,
-            }
-        } else {
-            self.set_process(at.subject, stopped(process, number));
-            Turned {
-                items: (
-                    Some(fault_item(at, number, process.registers.pc, false)),
-                    None,
-                ),
-                references,
-            }
+        let fault = self.fault(at.subject, &mut after, cause);
+        self.set_process(at.subject, after);
+        Turned {
+            items: (Some(fault_item(at, fault)), None),
+            references: references + pushes(fault.taken),
         }
     }
 
@@ -199,9 +164,7 @@ impl Tables {
                 items: self.settle(at, process, number),
                 references: executed.references,
             },
-            Event::Fault(cause) => {
-                self.fault(at, process, fault_number(cause), executed.references)
-            }
+            Event::Fault(cause) => self.end_in(at, process, cause, executed.references),
         }
     }
 
