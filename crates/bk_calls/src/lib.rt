@@ -23,6 +23,8 @@ mod reach;
 mod reply;
 mod rules;
 mod segments;
+#[cfg(test)]
+mod tests;
 mod windows;
 
 pub use caller::Caller;

@@ -9,9 +9,13 @@ use fixture::{ask, begun, switch};
 
 // The words of paths of one entry and of two, the first of them 1.
 const ROOT: u16 = 0o000000;
+
 const CHILD_0: u16 = 0o010000;
+
 const CHILD_1: u16 = 0o010400;
+
 const CHILD_2: u16 = 0o011000;
+
 const BELOW_1: [u16; 5] = [0o020400, 0o020420, 0o020440, 0o020460, 0o020500];
 
 // A subject at level 0 that may append to a segment of one block at level 1.
@@ -28,7 +32,11 @@ fn appends_to_a_higher_segment(rt: HostRuntime) {
         (0o1, [0, CHILD_1, 0, 0, 0, 0], No(1)),
     ];
     for (number, general, answer) in rows {
-        assert_eq!(rt; ask(&mut system, number, general), Some(answer), "call {number}");
+        assert_eq!(rt;
+            ask(&mut system, number, general),
+            Some(answer),
+            "call {number}"
+        );
     }
 }
 
@@ -51,7 +59,11 @@ fn names_what_is_below_a_held_directory(rt: HostRuntime) {
         (0o1, [0, 0o020020, 0, 0, 0, 0], Unknown(22)),
     ];
     for (number, general, answer) in rows {
-        assert_eq!(rt; ask(&mut system, number, general), Some(answer), "call {number}");
+        assert_eq!(rt;
+            ask(&mut system, number, general),
+            Some(answer),
+            "call {number}"
+        );
     }
 }
 
@@ -66,7 +78,11 @@ fn loses_the_seventeenth_message(rt: HostRuntime) {
         (0o2, [0, CHILD_1, 0, 0, 0, 0], Yes),
     ];
     for (number, general, answer) in rows {
-        assert_eq!(rt; ask(&mut system, number, general), Some(answer), "call {number}");
+        assert_eq!(rt;
+            ask(&mut system, number, general),
+            Some(answer),
+            "call {number}"
+        );
     }
     for n in 0..17 {
         let sent = ask(&mut system, 0o15, [n, CHILD_1, 0, 1, 2, 3]);
@@ -79,7 +95,10 @@ fn loses_the_seventeenth_message(rt: HostRuntime) {
         let lost = if n == 0 { 1 } else { 0 };
         assert_eq!(rt; system.process.registers.general, [0, lost, n, 1, 2, 3]);
     }
-    assert_eq!(rt; ask(&mut system, 0o16, [0, CHILD_1, 0, 0, 0, 0]), Some(No(9)));
+    assert_eq!(rt;
+        ask(&mut system, 0o16, [0, CHILD_1, 0, 0, 0, 0]),
+        Some(No(9))
+    );
 }
 
 // Below root an upgraded directory with a quota of 5, and below that segments of one block.
@@ -109,7 +128,11 @@ fn creates_while_the_quota_lasts(rt: HostRuntime) {
     ];
     for (caller, number, general, answer) in rows {
         switch(&mut system, caller, caller, caller);
-        assert_eq!(rt; ask(&mut system, number, general), Some(answer), "call {number}");
+        assert_eq!(rt;
+            ask(&mut system, number, general),
+            Some(answer),
+            "call {number}"
+        );
         if number == 0o23 {
             assert_eq!(rt; system.process.registers.general, [0, 0, 16, 7, 0, 0]);
         }
@@ -139,7 +162,11 @@ fn holds_nothing_of_a_new_object(rt: HostRuntime) {
         (0o14, [0, CHILD_1, 0, 0, 0, 0], No(8)),
     ];
     for (number, general, answer) in rows {
-        assert_eq!(rt; ask(&mut system, number, general), Some(answer), "call {number}");
+        assert_eq!(rt;
+            ask(&mut system, number, general),
+            Some(answer),
+            "call {number}"
+        );
     }
 }
 
@@ -152,9 +179,21 @@ fn reads_and_writes_a_line(rt: HostRuntime) {
     assert_eq!(rt; ask(&mut system, 0o20, [0, CHILD_2, 0, 0, 0, 0]), Some(Yes));
     assert_eq!(rt; system.process.registers.general, [0, 0, 0o150, 0, 0, 0]);
     assert!(rt; system.sent.is_none());
-    assert_eq!(rt; ask(&mut system, 0o17, [0, CHILD_2, 0, 0o550, 0, 0]), Some(Yes));
-    assert_eq!(rt; system.sent, Some(LineByte { line: 1, byte: 0o150 }));
-    assert_eq!(rt; ask(&mut system, 0o20, [0, CHILD_2, 0, 0, 0, 0]), Some(No(9)));
+    assert_eq!(rt;
+        ask(&mut system, 0o17, [0, CHILD_2, 0, 0o550, 0, 0]),
+        Some(Yes)
+    );
+    assert_eq!(rt;
+        system.sent,
+        Some(LineByte {
+            line: 1,
+            byte: 0o150
+        })
+    );
+    assert_eq!(rt;
+        ask(&mut system, 0o20, [0, CHILD_2, 0, 0, 0, 0]),
+        Some(No(9))
+    );
 }
 
 // A directory whose level is its parent's keeps no quota: a new one of 16 fits, and is governed by root's cell.
@@ -162,7 +201,13 @@ fn reads_and_writes_a_line(rt: HostRuntime) {
 fn tells_of_children_and_cells(rt: HostRuntime) {
     let mut system = begun(rt.alloc()).expect(&rt, "memory");
     let rows = [
-        (0, 0o10, [0, CHILD_0, 0, 0o401, 0, 0], Yes, [0, 0, 0, 0o401, 0, 0]),
+        (
+            0,
+            0o10,
+            [0, CHILD_0, 0, 0o401, 0, 0],
+            Yes,
+            [0, 0, 0, 0o401, 0, 0],
+        ),
         (0, 0o10, [0, CHILD_1, 0, 0, 0, 16], Yes, [0, 0, 0, 0, 0, 16]),
         (1, 0o21, [0, ROOT, 0, 2, 0, 0], Yes, [0, 0, 0o1401, 1, 4, 4]),
         (1, 0o21, [0, ROOT, 0, 5, 0, 0], No(9), [1, 9, 0, 5, 0, 0]),
@@ -170,13 +215,27 @@ fn tells_of_children_and_cells(rt: HostRuntime) {
         (1, 0o22, [7, 7, 7, 7, 7, 7], Yes, [0, 0, 1, 1, 1, 7]),
         (0, 0o6, [0, CHILD_1, 0, 1, 0, 0], Yes, [0, 0, 0, 1, 0, 0]),
         (0, 0o1, [0, CHILD_1, 0, 0, 0, 0], Yes, [0, 0, 0, 0, 0, 0]),
-        (0, 0o23, [0, CHILD_1, 0, 0, 0, 0], Yes, [0, 0, 0o20, 4, 0, 0]),
+        (
+            0,
+            0o23,
+            [0, CHILD_1, 0, 0, 0, 0],
+            Yes,
+            [0, 0, 0o20, 4, 0, 0],
+        ),
         (0, 0o21, [0, ROOT, 0, 0, 0, 0], Yes, [0, 0, 0o401, 0, 0, 0]),
         (0, 0o21, [0, ROOT, 0, 1, 0, 0], Yes, [0, 0, 0, 0, 1, 1]),
     ];
     for (caller, number, general, answer, after) in rows {
         switch(&mut system, caller, caller, caller);
-        assert_eq!(rt; ask(&mut system, number, general), Some(answer), "call {number}");
-        assert_eq!(rt; system.process.registers.general, after, "after call {number}");
+        assert_eq!(rt;
+            ask(&mut system, number, general),
+            Some(answer),
+            "call {number}"
+        );
+        assert_eq!(rt;
+            system.process.registers.general,
+            after,
+            "after call {number}"
+        );
     }
 }
