@@ -98,6 +98,20 @@ fn merged(width: Width, addr: u16, value: u16, word: u16) -> u16
 }
 
 impl SubjectBus {
+    /// The turn is that of the subject, 0 to 31, whose windows show these paths. Store, core and the count of references
+    /// stay.
+    pub(crate) fn begin(&mut self, subject: u8, windows: [Option<Path>; 32])
+        requires { subject < 32 }
+        ensures subject { self.new.subject ≡ subject }
+        ensures windows { self.new.windows ≡ windows }
+        ensures store { self.new.store ≡ self.old.store }
+        ensures core { self.new.core ≡ self.old.core }
+        ensures references { self.new.references ≡ self.old.references }
+    {
+        self.subject = subject;
+        self.windows = windows;
+    }
+
     // The path that a window shows, or None where it is free.
     fn path_in(&self, window: u8) -> Option<Path>
         requires { window < 32 }
