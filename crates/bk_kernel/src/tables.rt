@@ -154,7 +154,7 @@ impl Tables {
     }
 }
 
-// The bus is of this subject, with the windows of its process, and has made no reference.
+// The turn is the subject's, with the windows of its process, and no reference has been made in it.
 fn aim(bus: &mut SubjectBus, subject: u8, process: Process)
     requires { subject < 32 }
     ensures store { bus.new.store ≡ bus.old.store }
@@ -163,9 +163,8 @@ fn aim(bus: &mut SubjectBus, subject: u8, process: Process)
     ensures windows { bus.new.windows ≡ process.windows }
     ensures references { bus.new.references ≡ 0 }
 {
-    bus.subject = subject;
     let windows = process.windows;
-    bus.windows = windows;
+    bus.begin(subject, windows);
     bus.references = 0;
 }
 

@@ -119,10 +119,9 @@ impl Tables {
         let mut after = process;
         let reply = self.call(at.subject, &mut after, number);
         self.set_process(at.subject, after);
-        (
-            Some(call_item(at, number, process.registers.general, reply.answer)),
-            byte_item(at, reply.sent),
-        )
+        let item = call_item(at, number, process.registers.general, reply.answer);
+        let sent = byte_item(at, reply.sent);
+        (Some(item), sent)
     }
 
     // A fault, which the process takes at its entry with two references, or which stops it.
