@@ -4,7 +4,7 @@ use Rattle.std.proofs.lemmas.List.Sums.{sum_by-append}
 use Rattle.bk_report.specs.declared.item.ReportItem.{ReportItem}
 use Rattle.bk_state.specs.State.{State}
 use Rattle.bk_system.specs.Step.{Step, nothing, joined}
-use Rattle.bk_system.specs.First.{turn_of}
+use Rattle.bk_system.specs.Turn.{turn_of}
 use Rattle.bk_system.specs.Slot.{turns_of}
 use Rattle.bk_system.specs.Report.{is_call, calls_in}
 use Rattle.bk_kernel.specs.Progress.{Progress, raised, with_turns, next_turn, after_turn}

@@ -1,6 +1,6 @@
-pub mod Contents
-pub mod Entries
-pub mod Access
-pub mod Tables
 pub mod Items
 pub mod Progress
+pub mod Turning
+pub mod Loading
+pub mod Beginning
+pub mod Tables

@@ -4,7 +4,7 @@ use Rattle.std.specs.Prelude.{ℕ, ◌+◌, ◌-◌, ◌^◌, min, max, List}
 use Rattle.bk_state.specs.State.{State}
 use Rattle.bk_system.specs.declared.script.TypedAt.{TypedAt}
 use Rattle.bk_system.specs.Step.{Step}
-use Rattle.bk_system.specs.First.{turn_of}
+use Rattle.bk_system.specs.Turn.{turn_of}
 use Rattle.bk_system.specs.Slot.{slot_of, slot_ended, all_arrived}
 use Rattle.bk_system.specs.Report.{calls_in}
 

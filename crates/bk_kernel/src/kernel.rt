@@ -109,7 +109,7 @@ impl Kernel {
         let turned = self.tables.turn(at);
         self.since = self.since.saturating_add(1);
         self.turns = self.turns.saturating_add(1);
-        self.references = self.references.saturating_add(u64::from(turned.references));
+        self.references = self.references.saturating_add(turned.references);
         self.calls = self.calls.saturating_add(calls_in(&turned.items));
         turned.items
     }

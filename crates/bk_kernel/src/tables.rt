@@ -1,55 +1,37 @@
-// The state in lists: what is fixed, the objects, who holds what, the processes.
+// The state that the kernel keeps: what is fixed, store and core, and the processes.
 
-ghost use Rattle.std.specs.Prelude.{◌≡◌, ◌<◌, MatchOption, IfSome, None, Some, IsTrue, is_some, length};
-ghost use Rattle.bk_space.specs.declared.Space.TheVariants.{I};
-ghost use Rattle.bk_state.specs.State.{find, facts_at, holds, process_of};
-ghost use Rattle.bk_state.specs.Maps.{map_values};
-ghost use Rattle.bk_state.specs.Named.{is_named, passes};
-ghost use Rattle.bk_space.specs.AddrSpace.{page_number, read_at, is_absent};
-ghost use Rattle.bk_space.specs.declared.Width.TheVariants.{Word};
-ghost use Rattle.bk_system.specs.Space.{rights_of, rights_by, is_data, page_shown, space_of};
-ghost use Rattle.bk_system.specs.First.{with_process, byte_at, without_byte_at, has_byte, is_some_line};
-ghost use Rattle.bk_system.specs.Slot.{all_arrived, arrived, slot_ended, subject_of, taking, with_resumed};
-ghost use Rattle.std.specs.Prelude.{map, position};
-ghost use Rattle.std.specs.FinMap as finmap;
-ghost use Rattle.bk_kernel.specs.Entries.{objects_of, words_at, CanRead, with_object, without_byte_in};
-ghost use Rattle.std.specs.List.{list_any};
-ghost use Rattle.bk_object.specs.Kinds.{is_directory};
-ghost use Rattle.bk_object.specs.Modes.{has};
-ghost use Rattle.bk_path.specs.Paths.{is_same};
-ghost use Rattle.bk_kernel.specs.Access.{mode_of, gives};
+ghost use Rattle.std.specs.Prelude.{◌≡◌, ◌<◌, ◌≤◌, [], ◌∷◌, length, map, option_map, slice_index, if◌then◌else◌};
+ghost use Rattle.bk_process.specs.declared.status.Status9.TheVariants.{Stopped};
+ghost use Rattle.bk_space.specs.AddrSpace.{applied};
+ghost use Rattle.bk_exec.specs.Exec.{exec};
+ghost use Rattle.bk_state.specs.State.{process_of};
+ghost use Rattle.bk_state.specs.Answers.{called};
+ghost use Rattle.bk_calls.specs.Made.{answer_of, line_byte};
+ghost use Rattle.bk_system.specs.Space.{space_of};
+ghost use Rattle.bk_system.specs.Turn.{with_process, written, entered, fault_number, is_reflected, with_pushes};
+ghost use Rattle.bk_system.specs.Slot.{all_arrived, arrived, slot_ended, subject_of, with_resumed};
 
-use crate::entry::Entry;
-use bitflags::Flags;
-use bk_level::LevelTable;
-use bk_object::{Facts, Kind, Modes};
-use bk_path::Path;
+use crate::faulting::{Faulted, fault};
+use crate::instruction::run_one;
+use crate::subject_bus::SubjectBus;
+use bk_calls::{Caller, Reply, call};
+use bk_exec::Event;
 use bk_process::{Process, Status9};
-use bk_space::{Abort, Mode, Rights};
-use bk_state::{Clearance, Hold};
+use bk_space::Cause;
+use bk_state::Clearance;
 use bk_system::TypedAt;
 use std::marker::Model;
 
-/// A mode of access.
-#[derive(Clone, Copy, PartialEq, Eq, Debug)]
-pub(crate) enum Access {
-    Read,
-    Execute,
-    Write,
-    Append,
-}
-
-/// The state in lists.
+/// The state of the system. Of each subject, 0 to 31, it has the numbers of its levels and its process; of each line the
+/// number of its level. The bus owns store and core, and is of the subject whose turn it is.
 #[derive(Drop)]
 pub(crate) struct Tables {
-    pub(crate) levels: LevelTable,
     pub(crate) clearances: Vec<Clearance>,
     pub(crate) lines: Vec<u8>,
     pub(crate) turns: u16,
     pub(crate) schedule: Vec<u8>,
-    pub(crate) objects: Vec<Entry>,
-    pub(crate) holds: Vec<Hold>,
     pub(crate) processes: Vec<Process>,
+    pub(crate) bus: SubjectBus,
 }
 
 impl Model for Tables {
@@ -63,49 +45,18 @@ impl Model for Tables {
 
     ghost coded = { Prim.hlevel (codes, map.code, set.code) };
 
-    ghost use Rattle.bk_kernel.specs.Tables.{state_in};
+    ghost use Rattle.bk_kernel.specs.Tables.{state_kept, AreKept};
 
-    ghost view = { state_in };
+    ghost view = { state_kept };
+
+    ghost invariant = { AreKept };
 }
 
-fn has_mode(modes: Modes, access: Access) -> bool
-    ensures { result ≡ has modes (mode_of access) }
-{
-    let bits = modes.bits();
-    match access {
-        Access::Read => bits % 2 == 1,
-        Access::Execute => bits / 2 % 2 == 1,
-        Access::Write => bits / 4 % 2 == 1,
-        Access::Append => bits / 8 % 2 == 1,
-    }
-}
-
-fn gives(hold: &Hold, subject: u8, path: Path, access: Access) -> bool
-    ensures { result ≡ gives hold.now subject path (mode_of access) }
-{
-    hold.subject == subject && hold.path == path && has_mode(hold.modes, access)
-}
-
-fn any_gives(holds: &[Hold], subject: u8, path: Path, access: Access) -> bool
-    ensures { result ≡ list_any (λ hold. gives hold subject path (mode_of access)) holds.now }
-{
-    holds.iter().any(|hold| gives(hold, subject, path, access))
-}
-
-fn place(objects: &[Entry], path: Path) -> Option<usize>
-    ensures first { result ≡ position (λ entry. is_same entry.0 path) objects.now }
-    ensures within { IfSome result (λ place. place < length objects.now) }
-{
-    objects.iter().position(|entry| entry.path() == path)
-}
-
-fn find_entry(objects: &[Entry], path: Path) -> Option<&Entry>
-    ensures { MatchOption result (finmap.get (objects_of objects.now) path ≡ None) (λ entry. finmap.get (objects_of objects.now) path ≡ Some entry.now.1) }
-{
-    match place(objects, path) {
-        Some(place) => Some(&objects[place]),
-        None => None,
-    }
+/// How an instruction ended, and how many references it made.
+#[derive(Clone, Copy)]
+pub(crate) struct Executed {
+    pub(crate) event: Event,
+    pub(crate) references: u64,
 }
 
 impl Tables {
@@ -143,138 +94,78 @@ impl Tables {
             *place = process;
         }
     }
-
-    /// Whether the subject holds the object by the mode.
-    #[tactic(auto, using(crate::proofs::Held::held_from_holds))]
-    pub(crate) fn holds(&self, subject: u8, path: Path, access: Access) -> bool
-        ensures { result ≡ holds self.now subject path (mode_of access) }
-    {
-        any_gives(&self.holds, subject, path, access)
-    }
-
-    /// The object at a path.
-    pub(crate) fn object(&self, path: Path) -> Option<&Entry>
-        ensures { MatchOption result (find self.now path ≡ None) (λ entry. find self.now path ≡ Some entry.now.1) }
-    {
-        find_entry(&self.objects, path)
-    }
-
-    /// The facts of the object at a path.
-    pub(crate) fn facts(&self, path: Path) -> Option<Facts>
-        ensures { result ≡ facts_at self.now path }
-    {
-        match self.object(path) {
-            Some(entry) => Some(entry.facts()),
-            None => None,
-        }
-    }
 }
 
 impl Tables {
-    /// The rights that the access held now gives in a window that shows the path.
-    pub(crate) fn rights(&self, subject: u8, window: u8, path: Path) -> Rights
-        ensures { result ≡ rights_of self.now subject window path }
+    /// One instruction of the subject, by the registers and through the windows of the process.
+    #[tactic(auto, using(crate::proofs::Kept::counted_small))]
+    pub(crate) fn instruct(&mut self, subject: u8, process: &mut Process) -> Executed
+        requires { subject < length self.old.processes }
+        ensures state { self.new ≡ applied (written process.old.windows) self.old (exec (space_of self.old subject process.old.windows) process.old.registers).write }
+        ensures processes { self.new.processes ≡ self.old.processes }
+        ensures process { process.new ≡ record process.old { registers = (exec (space_of self.old subject process.old.windows) process.old.registers).regs } }
+        ensures event { result.event ≡ (exec (space_of self.old subject process.old.windows) process.old.registers).outcome }
+        ensures references { result.references ≡ (exec (space_of self.old subject process.old.windows) process.old.registers).references }
+        ensures few { result.references ≤ 8 }
     {
-        if window / 8 % 2 == 1 {
-            if self.holds(subject, path, Access::Write) {
-                Rights::Write
-            } else if self.holds(subject, path, Access::Read) {
-                Rights::Read
-            } else {
-                Rights::None
-            }
-        } else if self.holds(subject, path, Access::Execute) {
-            Rights::Read
-        } else {
-            Rights::None
+        aim(&mut self.bus, subject, *process);
+        let event = run_one(&mut self.bus, &mut process.registers);
+        Executed {
+            event,
+            references: self.bus.references,
         }
     }
 
-    /// The words of a page that can be read.
-    fn readable(&self, subject: u8, window: u8, shown: Option<Path>) -> Option<&[u16]>
-        ensures { MatchOption result (IsTrue (is_absent (page_shown self.now subject window (Some shown)).rights)) (λ words. CanRead (page_shown self.now subject window (Some shown)) words.now) }
+    /// A kernel call of the subject, by the registers of the process.
+    pub(crate) fn call(&mut self, subject: u8, process: &mut Process, number: u8) -> Reply
+        requires { subject < length self.old.processes }
+        ensures state { self.new ≡ record self.old { objects = (called self.old subject process.old number).objects; access = (called self.old subject process.old number).access } }
+        ensures process { process.new ≡ (called self.old subject process.old number).process }
+        ensures answer { result.answer ≡ answer_of (called self.old subject process.old number).cause }
+        ensures sent { result.sent ≡ option_map line_byte (called self.old subject process.old number).sent }
     {
-        let path = shown?;
-        match self.rights(subject, window, path) {
-            Rights::None => None,
-            Rights::Read | Rights::Write => self.words(path),
-        }
-    }
-
-    /// The words of the segment at a path.
-    fn words(&self, path: Path) -> Option<&[u16]>
-        ensures { MatchOption result (words_at (find self.now path) ≡ None) (λ words. words_at (find self.now path) ≡ Some words.now) }
-    {
-        match self.object(path) {
-            Some(entry) => entry.words(),
-            None => None,
-        }
-    }
-
-    /// The word at an address of instruction space.
-    #[tactic(auto, unfolding(bk_system::specs::Space::space_of, bk_space::specs::AddrSpace::read_at, bk_space::specs::AddrSpace::page_at))]
-    pub(crate) fn read_word(
-        &self,
-        subject: u8,
-        windows: &[Option<Path>; 32],
-        mode: Mode,
-        address: u16,
-    ) -> Result<u16, Abort>
-        ensures { result ≡ read_at (space_of self.now subject windows.now) mode I Word address }
-    {
-        if address % 2 == 1 {
-            return Err(Abort::Odd);
-        }
-        let window = window(mode, address);
-        let words = match self.readable(subject, window, windows[window as usize]) {
-            Some(words) => words,
-            None => return Err(Abort::NonResident),
+        let levels = self.clearances[subject as usize];
+        let caller = Caller {
+            subject,
+            f_s: levels.greatest,
+            f_c: levels.current,
+            subjects: self.clearances.len() as u8,
         };
-        let place = (address % 8192 / 2) as usize;
-        if words.len() <= place {
-            Err(Abort::Length)
-        } else {
-            Ok(words[place])
-        }
+        call(
+            &mut self.bus.store,
+            &mut self.bus.core,
+            process,
+            &caller,
+            number,
+        )
+    }
+
+    /// A fault of the subject, which its process takes at its entry, or which stops it.
+    pub(crate) fn fault(&mut self, subject: u8, process: &mut Process, cause: Cause) -> Faulted
+        requires { subject < length self.old.processes }
+        ensures number { result.number ≡ fault_number cause }
+        ensures pc { result.pc ≡ process.old.registers.pc }
+        ensures taken { result.taken ≡ is_reflected self.old subject process.old (slice_index process.old.entries (fault_number cause)) }
+        ensures process { process.new ≡ (if result.taken then entered process.old (slice_index process.old.entries (fault_number cause)) else record process.old { status = Stopped (fault_number cause) }) }
+        ensures state { self.new ≡ (if result.taken then with_pushes self.old process.old else self.old) }
+    {
+        aim(&mut self.bus, subject, *process);
+        fault(&mut self.bus, process, cause)
     }
 }
 
-fn window(mode: Mode, address: u16) -> u8
-    ensures number { result ≡ page_number mode I address }
-    ensures within { result < 32 }
+// The turn is the subject's, with the windows of its process, and no reference has been made in it.
+fn aim(bus: &mut SubjectBus, subject: u8, process: Process)
+    requires { subject < 32 }
+    ensures store { bus.new.store ≡ bus.old.store }
+    ensures core { bus.new.core ≡ bus.old.core }
+    ensures subject { bus.new.subject ≡ subject }
+    ensures windows { bus.new.windows ≡ process.windows }
+    ensures references { bus.new.references ≡ 0 }
 {
-    let page = (address / 8192) as u8;
-    match mode {
-        Mode::Supervisor => page,
-        Mode::User => 16 + page,
-    }
-}
-
-fn take_byte_of(objects: &mut [Entry], path: Path) -> u8
-    ensures byte { result ≡ byte_at (finmap.get (objects_of objects.old) path) }
-    ensures left { objects_of objects.new ≡ with_object (objects_of objects.old) path (without_byte_in (finmap.get (objects_of objects.old) path)) }
-{
-    match place(objects, path) {
-        Some(place) => {
-            let entry = &mut objects[place];
-            entry.take_byte()
-        }
-        None => 0,
-    }
-}
-
-fn type_all(objects: &mut [Entry], line: u8, bytes: &[u8])
-    ensures { objects.new ≡ map (λ entry. (entry.0, taking line bytes.now entry.1)) objects.old }
-{
-    for entry in objects.iter_mut() {
-        entry.type_bytes(line, bytes);
-    }
-}
-
-fn type_on(objects: &mut [Entry], line: u8, bytes: &[u8])
-    ensures { objects_of objects.new ≡ map_values (taking line bytes.now) (objects_of objects.old) }
-{
-    type_all(objects, line, bytes);
+    let windows = process.windows;
+    bus.begin(subject, windows);
+    bus.references = 0;
 }
 
 fn resume(process: &mut Process)
@@ -294,20 +185,21 @@ fn resume_all(processes: &mut [Process])
 }
 
 impl Tables {
-    /// Takes the oldest typed byte of the line at a path, or gives 0 where none waits.
-    pub(crate) fn take_byte(&mut self, path: Path) -> u8
-        ensures byte { result ≡ byte_at (find self.old path) }
-        ensures left { self.new ≡ without_byte_at self.old path (find self.old path) }
+    /// A byte arrives on a line.
+    #[tactic(auto, unfolding(bk_system::specs::Slot::arrived))]
+    fn type_byte(&mut self, line: u8, byte: u8)
+        ensures { self.new ≡ arrived self.old line (byte ∷ []) }
     {
-        take_byte_of(&mut self.objects, path)
+        self.bus.store.type_byte(line, byte);
     }
 
-    /// Bytes arrive on a line.
-    #[tactic(auto, unfolding(bk_system::specs::Slot::arrived))]
-    pub(crate) fn type_bytes(&mut self, line: u8, bytes: &[u8])
+    /// Bytes arrive on a line, in order.
+    fn type_bytes(&mut self, line: u8, bytes: &[u8])
         ensures { self.new ≡ arrived self.old line bytes.now }
     {
-        type_on(&mut self.objects, line, bytes);
+        for byte in bytes {
+            self.type_byte(line, *byte);
+        }
     }
 
     /// The bytes of records arrive on their lines, in order.
@@ -325,48 +217,5 @@ impl Tables {
         ensures { self.new ≡ slot_ended self.old }
     {
         resume_all(&mut self.processes);
-    }
-
-    /// Whether the subject may name the object at a path.
-    pub(crate) fn is_named(&self, subject: u8, path: Path) -> bool
-        ensures { result ≡ is_named self.now subject path }
-    {
-        match path.parent() {
-            None => true,
-            Some(parent) => {
-                self.is_directory(parent)
-                    && (self.holds(subject, parent, Access::Read)
-                        || self.holds(subject, parent, Access::Write))
-            }
-        }
-    }
-
-    fn is_directory(&self, path: Path) -> bool
-        ensures { result ≡ passes (λ facts. is_directory facts.kind) (facts_at self.now path) }
-    {
-        match self.facts(path) {
-            Some(facts) => facts.kind == Kind::Directory,
-            None => false,
-        }
-    }
-
-    /// Whether the object at a path is a line.
-    pub(crate) fn is_line(&self, path: Path) -> bool
-        ensures { result ≡ passes (λ facts. is_some_line facts.kind) (facts_at self.now path) }
-    {
-        match self.facts(path) {
-            Some(facts) => matches!(facts.kind, Kind::Line(_)),
-            None => false,
-        }
-    }
-
-    /// Whether a typed byte waits on the line at a path.
-    pub(crate) fn has_byte(&self, path: Path) -> bool
-        ensures { result ≡ passes (λ o. has_byte o.contents) (find self.now path) }
-    {
-        match self.object(path) {
-            Some(entry) => entry.has_byte(),
-            None => false,
-        }
     }
 }

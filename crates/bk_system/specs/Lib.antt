@@ -1,6 +1,5 @@
 pub mod Space
 pub mod Step
-pub mod First
+pub mod Turn
 pub mod Slot
 pub mod Report
-pub mod Turn

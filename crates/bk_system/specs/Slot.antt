@@ -8,7 +8,7 @@ use Rattle.bk_state.specs.Maps.{map_values}
 use Rattle.bk_state.specs.State.{State, Object, Contents, Children, Words, Messages, Typed}
 use Rattle.bk_state.specs.Start.{is_line, state_of}
 use Rattle.bk_system.specs.declared.script.TypedAt.{TypedAt}
-use Rattle.bk_system.specs.First.{turn_of}
+use Rattle.bk_system.specs.Turn.{turn_of}
 use Rattle.bk_system.specs.Step.{Step, nothing, joined}
 
 -- ---- typed bytes

@@ -3,7 +3,7 @@ use Rattle.bk_base.specs.Written.{Took, Broke}
 use Rattle.bk_base.proofs.Written.{took_nil, took_then, broke_then, broke_within, on_err_any}
 use Rattle.bk_report.specs.Text.{lines_of}
 use Rattle.bk_system.specs.Step.{Step}
-use Rattle.bk_system.specs.First.{turn_of}
+use Rattle.bk_system.specs.Turn.{turn_of}
 use Rattle.bk_system.specs.Slot.{turns_of, slot_of}
 use Rattle.bk_kernel.specs.Items.{items_of}
 use Rattle.bk_kernel.specs.Progress.{Progress, with_arrived, with_turns, next_turn, after_turn, after_end, after_slot}

@@ -1,0 +1,22 @@
+use Rattle.std.proofs.Common.{◌∙◌, ℕ, suc, List, drop, get_or, sym, ap, add-one, drop-cons}
+use Rattle.std.proofs.lemmas.List.{drop_all}
+use Rattle.bk_state.specs.State.{State}
+use Rattle.bk_system.specs.Slot.{arrived}
+use Rattle.bk_kernel.proofs.Kept.{arrived-cons, arrived-none}
+use Rattle.bk_kernel.proofs.tables.Tables.type_bytes.Goals as goal
+
+pub loop-byte-preserved : goal.loop-byte-preserved
+loop-byte-preserved c =
+    let bytes = c.args.bytes.now in
+    let i = c.loop-byte.byte-index in
+    ap (λ n. arrived c.type_byte.new.self c.args.line (drop n bytes)) (add-one i)
+    ∙ ap (λ (v : State). arrived v c.args.line (drop (suc i) bytes)) c.type_byte.ensures
+    ∙ arrived-cons c.loop-byte.self c.args.line (get_or bytes i 0) (drop (suc i) bytes)
+    ∙ ap (λ (bs : List ℕ). arrived c.loop-byte.self c.args.line bs) (sym (drop-cons bytes i 0 c.loop-byte-test.true))
+    ∙ c.loop-byte.invariant
+
+pub returns : goal.returns
+returns c =
+    sym (arrived-none c.loop-byte.self c.args.line)
+    ∙ ap (λ (bs : List ℕ). arrived c.loop-byte.self c.args.line bs) (sym (drop_all c.loop-byte.byte-index c.args.bytes.now c.loop-byte-test.false))
+    ∙ c.loop-byte.invariant

@@ -1,0 +1,6 @@
+use Rattle.std.proofs.Common.{◌≡◌, drop}
+use Rattle.bk_system.specs.Slot.{arrived}
+use Rattle.bk_kernel.proofs.tables.Tables.type_bytes.Given as goal
+
+abbrev pub invariant-loop-byte : goal.invariant-loop-byte
+invariant-loop-byte l = arrived l.self l.line (drop l.byte-index l.bytes) ≡ arrived l.fn.self l.line l.bytes
