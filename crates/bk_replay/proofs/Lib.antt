@@ -1,3 +1,5 @@
 pub mod Records
 pub mod Slots
 pub mod Totals
+pub mod Whole
+pub mod Answered

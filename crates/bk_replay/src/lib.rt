@@ -1,13 +1,18 @@
 //! A run from an image and a script to its report.
 //!
-//! Model: `report_of` of `bk_system`, the report of a run; `specs/Played.antt` (`summary_of`, the totals of a run).
-//! Calls: `play`.
+//! Model: `report_of` of `bk_system`, the report of a run; `specs/Played.antt` (`summary_of`, the totals of a run);
+//! `specs/Replayed.antt` (what the bytes of a run spell, and what each answer says), over `image_of` of `bk_image` and
+//! `script_of` of `bk_script`.
+//! Calls: `play`, `replay`.
 //! Proved: `play` writes exactly the report of the abstract run, or a front of it where the sink fails, and answers its
-//! totals.
-//! Stands on: `bk_kernel`, `bk_script`.
+//! totals; `replay` does so for the image and the script that its input spells, and refuses any other input with its first
+//! fault.
+//! Stands on: `bk_base`, `bk_image`, `bk_kernel`, `bk_report`, `bk_script`, `bk_state`, `bk_system`.
 #![tactic(auto)]
 
 mod playing;
+mod replaying;
 
 pub use bk_kernel::Summary;
 pub use playing::{PlayStop, play};
+pub use replaying::{RunStop, replay};

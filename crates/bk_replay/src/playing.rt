@@ -3,7 +3,7 @@
 ghost use Rattle.std.specs.Prelude.{◌≡◌, ◌*◌, ◌≤◌, length, Ok, Err, IfOk, OnOk, OnErr};
 ghost use Rattle.bk_base.specs.Written.{Took, Broke};
 ghost use Rattle.bk_script.specs.Script.{IsInOrder, IsScript};
-ghost use Rattle.bk_state.specs.FirstImage.{IsFirst};
+ghost use Rattle.bk_image.specs.Accepted.{IsAccepted};
 ghost use Rattle.bk_system.specs.Report.{report_of};
 ghost use Rattle.bk_kernel.specs.Progress.{begun};
 ghost use Rattle.bk_report.specs.Text.{lines_of};
@@ -84,7 +84,7 @@ pub fn play<O: Sink>(
     script: &Script,
     out: &mut O,
 ) -> Result<Summary, PlayStop>
-    requires first { IsFirst image.now }
+    requires image { IsAccepted image.now }
     requires script { IsScript image.now.lines image.now.turns script.now.typed script.now.slots }
     ensures totals { IfOk result (λ summary. summary ≡ summary_of image.now script.now.typed script.now.slots) }
     ensures written { OnOk result (Took (O.taken out.old) (O.taken out.new) (O.faults out.old) (O.faults out.new) (report_of image.now script.now.typed script.now.slots)) }

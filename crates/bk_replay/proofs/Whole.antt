@@ -1,0 +1,84 @@
+-- What was read decides the image and the script of all that the input had left.
+use Rattle.std.proofs.Common.{◌≡◌, ℕ, ◌≤◌, ◌<◌, Bool, true, false, List, [], ◌++◌, length, drop, refl, sym, ◌∙◌, ap, arith, append-nil, length-drop, length-append, subst, Some, None, IfSome, Ok, Err}
+use Rattle.std.specs.Prelude.{Option, Result, nat_lt}
+use Rattle.std.specs.Io.KnownBytes.{Consumes, IsAtEnd}
+use Rattle.std.proofs.lemmas.Bool.Decides.{nat_tests}
+use Rattle.bk_image.specs.Image.{image_of}
+use Rattle.bk_image.proofs.Cut.{image_cut, image_short}
+use Rattle.bk_state.specs.declared.image.Image.{Image}
+use Rattle.bk_system.specs.declared.script.TypedAt.{TypedAt}
+use Rattle.bk_script.specs.declared.fault.ScriptFault.{ScriptFault}
+use Rattle.bk_script.specs.declared.fault.ScriptKind.TheVariants.{Long}
+use Rattle.bk_script.specs.Lines.{script_of}
+use Rattle.bk_replay.specs.Replayed.{script_after}
+
+-- the bytes and what was read of them are an image and a script alike
+pub record Decides (bytes read : List ℕ) : Type 0 where
+  pub image : image_of bytes ≡ image_of read
+  pub script : (image : Image) (count : ℕ) → image_of read ≡ Ok (image, count) → script_after image count bytes ≡ script_after image count read
+
+is_less : (m n : ℕ) → m < n → nat_lt m n ≡ true
+is_less m n h = grind (arith, nat_tests, h)
+
+less : (m n : ℕ) → nat_lt m n ≡ true → m < n
+less m n h = grind (arith, nat_tests, h)
+
+not_less : (m n : ℕ) → nat_lt m n ≡ false → n ≤ m
+not_less m n h = grind (arith, nat_tests, h)
+
+script_long : (image : Image) (count : ℕ) (bytes : List ℕ) → count ≤ 524288 → 1572864 < length bytes → script_after image count bytes ≡ Err (record { line = 0; kind = Long })
+unfolding script_of
+script_long image count bytes short h =
+    let long : nat_lt 1048576 (length (drop count bytes)) ≡ true = is_less 1048576 (length (drop count bytes)) (omega (arith, length-drop count bytes, short, h)) in
+    rw long refl
+
+decides_same : (bytes read : List ℕ) → bytes ≡ read → Decides bytes read
+decides_same bytes read e = record { image = ap image_of e; script = λ image count there. ap (script_after image count) e }
+
+decides_long : (read more : List ℕ) → 1572864 < length read → Decides (read ++ more) read
+decides_long read more h =
+    let ample : 524288 ≤ length read = omega (arith, h) in
+    let all : 1572864 < length (read ++ more) = omega (arith, length-append read more, h) in
+    record {
+      image = image_cut read more ample;
+      script = λ image count there.
+          let short : count ≤ 524288 = image_short read image count ample there in
+          script_long image count (read ++ more) short all ∙ sym (script_long image count read short h);
+    }
+
+by_length : (bytes read rest : List ℕ) (b : Bool) → nat_lt (length read) 1572865 ≡ b → bytes ≡ read ++ rest → (length read < 1572865 → rest ≡ []) → Decides bytes read
+by_length bytes read rest true t e end =
+    let short : length read < 1572865 = less (length read) 1572865 t in
+    decides_same bytes read (e ∙ ap (λ l. read ++ l) (end short) ∙ append-nil read)
+by_length bytes read rest false t e end =
+    let long : 1572864 < length read = omega (arith, not_less (length read) 1572865 t) in
+    subst (λ l. Decides l read) (sym e) (decides_long read rest long)
+
+-- the input's bytes are decided by what was read of them
+pub whole : (left now : Option (List ℕ)) (read : List ℕ) → Consumes left now read → (length read < 1572865 → IsAtEnd now) → IfSome left (λ bytes. Decides bytes read)
+whole None now read p end = tt
+whole (Some bytes) None read p end = absurd p
+whole (Some bytes) (Some rest) read p end = by_length bytes read rest (nat_lt (length read) 1572865) refl p end
+
+-- where what was read has a script, all was read
+ended : (left now : Option (List ℕ)) (read : List ℕ) → Consumes left now read → IsAtEnd now → IfSome left (λ bytes. now ≡ Some [])
+ended None now read p e = tt
+ended (Some bytes) None read p e = absurd p
+ended (Some bytes) (Some rest) read p e = ap (λ l. Some l) e
+
+script_short : (image : Image) (count : ℕ) (read : List ℕ) (x : List TypedAt × ℕ) (b : Bool) → nat_lt (length read) 1572865 ≡ b → image_of read ≡ Ok (image, count) → script_after image count read ≡ Ok x → length read < 1572865
+script_short image count read x true t there e = less (length read) 1572865 t
+script_short image count read x false t there e =
+    let long : 1572864 < length read = omega (arith, not_less (length read) 1572865 t) in
+    let short : count ≤ 524288 = image_short read image count (omega (arith, long)) there in
+    let bad : ◌≡◌ {A = Result (List TypedAt × ℕ) ScriptFault} (Err (record { line = 0; kind = Long })) (Ok x) = sym (script_long image count read short long) ∙ e in
+    cc
+
+both : (P Q : List ℕ → Type 0) (left : Option (List ℕ)) → IfSome left P → IfSome left Q → IfSome left (λ bytes. P bytes × Q bytes)
+both P Q None p q = tt
+both P Q (Some bytes) p q = (p, q)
+
+pub read_whole : (left now : Option (List ℕ)) (read : List ℕ) (image : Image) (count : ℕ) (x : List TypedAt × ℕ) → Consumes left now read → (length read < 1572865 → IsAtEnd now) → image_of read ≡ Ok (image, count) → script_after image count read ≡ Ok x →
+    IfSome left (λ bytes. (now ≡ Some []) × Decides bytes read)
+read_whole left now read image count x p end there e =
+    both _ _ left (ended left now read p (end (script_short image count read x (nat_lt (length read) 1572865) refl there e))) (whole left now read p end)
