@@ -1,9 +1,18 @@
 -- What each status of the command says, from what the command came to and what was written on the error output.
-use Rattle.std.proofs.Common.{◌≡◌, ◌⊎◌, inl, inr, ℕ, List, [], refl, sym, ◌∙◌, ap, subst, Some, None, IfSome}
-use Rattle.std.specs.Prelude.{Option}
-use Rattle.bk_state.specs.declared.Image.{Image}
-use Rattle.bk_state.specs.FirstImage.{first_image_of}
-use Rattle.bk_system.specs.declared.TypedAt.{TypedAt}
+use Rattle.std.proofs.Common.{◌≡◌, ◌⊎◌, inl, inr, ℕ, List, [], refl, sym, ◌∙◌, ap, subst, Some, None, IfSome, Ok, Err}
+use Rattle.std.specs.Prelude.{Option, Result}
+use Rattle.bk_image.specs.declared.fault.ImageFault.{ImageFault}
+use Rattle.bk_image.specs.Image.{image_of}
+use Rattle.bk_kernel.specs.declared.kernel.Summary.{Summary}
+use Rattle.bk_replay.specs.declared.replaying.RunStop.{RunStop}
+use Rattle.bk_replay.specs.declared.replaying.RunStop.TheVariants as stop
+use Rattle.bk_replay.specs.Played.{summary_of}
+use Rattle.bk_replay.specs.Replayed.{Spells, IsNoImage, IsNoScript, OfRun, OfReport, Replayed}
+use Rattle.bk_replay.proofs.Answered.{some_all, some_map}
+use Rattle.bk_script.specs.declared.fault.ScriptFault.{ScriptFault}
+use Rattle.bk_state.specs.declared.image.Image.{Image}
+use Rattle.bk_system.specs.declared.script.TypedAt.{TypedAt}
+use Rattle.bk_system.specs.Report.{report_of}
 use Rattle.blpk.specs.Lines.{usage_line, read_line, memory_line, image_line, script_line}
 use Rattle.blpk.specs.Words.{command_of}
 use Rattle.blpk.specs.declared.words.Command.TheVariants.{Run}
@@ -11,28 +20,31 @@ use Rattle.blpk.specs.declared.status.Status.{Status}
 use Rattle.blpk.specs.declared.status.Status.TheVariants as status
 use Rattle.blpk.specs.declared.status.Outcome.{Outcome}
 use Rattle.blpk.specs.declared.status.Outcome.TheVariants as outcome
-use Rattle.blpk.specs.Causes.{Spells, IsNoImage, IsNoScript, OfReport, Row, IsRefusal, Ran, Performed, Said, Finished, ByOut, ByErr, by_script, by_image, by_command, expected}
+use Rattle.blpk.specs.Causes.{Row, IsRefusal, Ran, Performed, Said, Finished, ByOut, ByErr, by_script, by_image, by_command, expected, outcome_of}
 
-some_all : (left : Option (List ℕ)) (Q : List ℕ → Type 0) → ((bytes : List ℕ) → Q bytes) → IfSome left Q
-some_all None Q f = tt
-some_all (Some bytes) Q f = f bytes
-
-pub some_map : (left : Option (List ℕ)) (P Q : List ℕ → Type 0) → ((bytes : List ℕ) → P bytes → Q bytes) → IfSome left P → IfSome left Q
-some_map None P Q f p = tt
-some_map (Some bytes) P Q f p = f bytes p
+-- what a run came to, by its answer
+pub ran_of : (left now : Option (List ℕ)) (kept rose fell : Type 0) (took part : List ℕ → Type 0) (answer : Result Summary RunStop) → Replayed left now kept rose fell took part answer → Ran left now kept rose fell took part (outcome_of answer)
+ran_of left now kept rose fell took part (Ok summary) p =
+    some_map left (λ bytes. (now ≡ Some []) × OfRun (λ image records slots. took (report_of image records slots) × (summary ≡ summary_of image records slots)) bytes) (λ bytes. (now ≡ Some []) × OfReport took bytes)
+    (λ bytes x. (x.0, record { image = x.1.image; records = x.1.records; slots = x.1.slots; spells = x.1.spells; run = x.1.run.0 })) p
+ran_of left now kept rose fell took part (Err stop.Read) p = p
+ran_of left now kept rose fell took part (Err (stop.Image fault)) p = p
+ran_of left now kept rose fell took part (Err (stop.Script fault)) p = p
+ran_of left now kept rose fell took part (Err stop.Write) p = p
+ran_of left now kept rose fell took part (Err stop.NoMemory) p = p
 
 module _ (words : List (List ℕ)) (bytes : List ℕ) where
-  by_run : command_of words ≡ Some Run → expected words bytes ≡ by_image (first_image_of bytes) bytes
+  by_run : command_of words ≡ Some Run → expected words bytes ≡ by_image (image_of bytes) bytes
   by_run e = ap (λ c. by_command c bytes) e
 
   expected_ok : (image : Image) (records : List TypedAt) (slots : ℕ) → command_of words ≡ Some Run → Spells bytes image records slots → expected words bytes ≡ status.Ok
   expected_ok image records slots e p = by_run e ∙ ap (λ i. by_image i bytes) p.image_is ∙ ap by_script p.script_is
 
-  expected_image : command_of words ≡ Some Run → IsNoImage bytes → expected words bytes ≡ status.ImageRefused
-  expected_image e p = by_run e ∙ ap (λ i. by_image i bytes) p
+  expected_image : (fault : ImageFault) → command_of words ≡ Some Run → IsNoImage fault bytes → expected words bytes ≡ status.ImageRefused
+  expected_image fault e p = by_run e ∙ ap (λ i. by_image i bytes) p
 
-  expected_script : command_of words ≡ Some Run → IsNoScript bytes → expected words bytes ≡ status.ScriptRefused
-  expected_script e p = by_run e ∙ ap (λ i. by_image i bytes) p.image_is ∙ ap by_script p.script_is
+  expected_script : (fault : ScriptFault) → command_of words ≡ Some Run → IsNoScript fault bytes → expected words bytes ≡ status.ScriptRefused
+  expected_script fault e p = by_run e ∙ ap (λ i. by_image i bytes) p.image_is ∙ ap by_script p.script_is
 
 module _ (words : List (List ℕ)) (left now : Option (List ℕ)) (unread kept rose fell : Type 0) (took part : List ℕ → Type 0) (quiet lost : Type 0) (said begun : List ℕ → Type 0) where
   abbrev Did : Outcome → Type 0
@@ -62,8 +74,8 @@ module _ (words : List (List ℕ)) (left now : Option (List ℕ)) (unread kept r
   ok_ran s outcome.Write p f e = let bad : status.WriteFault ≡ status.Ok = sym f.0 ∙ e in cc
   ok_ran s outcome.Usage p f e = absurd p
   ok_ran s outcome.Read p f e = absurd (not_ok read_line status.ReadFault s (λ bad. cc) f e)
-  ok_ran s outcome.Image p f e = absurd (not_ok image_line status.ImageRefused s (λ bad. cc) f e)
-  ok_ran s outcome.Script p f e = absurd (not_ok script_line status.ScriptRefused s (λ bad. cc) f e)
+  ok_ran s (outcome.Image fault) p f e = absurd (not_ok (image_line fault) status.ImageRefused s (λ bad. cc) f e)
+  ok_ran s (outcome.Script fault) p f e = absurd (not_ok (script_line fault) status.ScriptRefused s (λ bad. cc) f e)
   ok_ran s outcome.NoMemory p f e = absurd (not_ok memory_line status.NoMemory s (λ bad. cc) f e)
 
   usage_of : (s : Status) (o : Outcome) → o ≡ outcome.Usage → Told s o → Says usage_line status.Usage s
@@ -87,8 +99,8 @@ module _ (words : List (List ℕ)) (left now : Option (List ℕ)) (unread kept r
   refused_ran s outcome.Write w p f r = absurd (subst IsRefusal f.0 r)
   refused_ran s outcome.Usage w p f r = absurd p
   refused_ran s outcome.Read w p f r = refuse read_line status.ReadFault s (w, p.1, refl) p.0 f r
-  refused_ran s outcome.Image w p f r = refuse image_line status.ImageRefused s (w, p.1, refl) p.0 f r
-  refused_ran s outcome.Script w p f r = refuse script_line status.ScriptRefused s (w, p.1, refl) p.0 f r
+  refused_ran s (outcome.Image fault) w p f r = refuse (image_line fault) status.ImageRefused s (w, (fault, p.1, refl)) p.0 f r
+  refused_ran s (outcome.Script fault) w p f r = refuse (script_line fault) status.ScriptRefused s (w, (fault, p.1, refl)) p.0 f r
   refused_ran s outcome.NoMemory w p f r = refuse memory_line status.NoMemory s (w, refl) p f r
 
   pub refused_of : (s : Status) (o : Outcome) → Did o → Told s o → IsRefusal s → Refused s
@@ -109,8 +121,8 @@ module _ (words : List (List ℕ)) (left now : Option (List ℕ)) (unread kept r
   write_ran s outcome.Write w p f e = inl (w, p.0, f.1, p.1)
   write_ran s outcome.Usage w p f e = absurd p
   write_ran s outcome.Read w p f e = fail read_line status.ReadFault s (λ bad. cc) (w, p.1, refl) p.0 f e
-  write_ran s outcome.Image w p f e = fail image_line status.ImageRefused s (λ bad. cc) (w, p.1, refl) p.0 f e
-  write_ran s outcome.Script w p f e = fail script_line status.ScriptRefused s (λ bad. cc) (w, p.1, refl) p.0 f e
+  write_ran s (outcome.Image fault) w p f e = fail (image_line fault) status.ImageRefused s (λ bad. cc) (w, (fault, p.1, refl)) p.0 f e
+  write_ran s (outcome.Script fault) w p f e = fail (script_line fault) status.ScriptRefused s (λ bad. cc) (w, (fault, p.1, refl)) p.0 f e
   write_ran s outcome.NoMemory w p f e = fail memory_line status.NoMemory s (λ bad. cc) (w, refl) p f e
 
   pub write_of : (s : Status) (o : Outcome) → Did o → Told s o → s ≡ status.WriteFault → Failed
@@ -142,10 +154,10 @@ module _ (words : List (List ℕ)) (left now : Option (List ℕ)) (unread kept r
   asked_ran s outcome.Write w p f a b c = absurd (b p.0)
   asked_ran s outcome.Usage w p f a b c = absurd p
   asked_ran s outcome.Read w p f a b c = absurd (a p.1)
-  asked_ran s outcome.Image w p f a b c =
-      some_map left IsNoImage (Asked s) (λ bytes x. inl (its_own image_line status.ImageRefused s c f ∙ sym (expected_image words bytes w x))) p.1
-  asked_ran s outcome.Script w p f a b c =
-      some_map left IsNoScript (Asked s) (λ bytes x. inl (its_own script_line status.ScriptRefused s c f ∙ sym (expected_script words bytes w x))) p.1
+  asked_ran s (outcome.Image fault) w p f a b c =
+      some_map left (IsNoImage fault) (Asked s) (λ bytes x. inl (its_own (image_line fault) status.ImageRefused s c f ∙ sym (expected_image words bytes fault w x))) p.1
+  asked_ran s (outcome.Script fault) w p f a b c =
+      some_map left (IsNoScript fault) (Asked s) (λ bytes x. inl (its_own (script_line fault) status.ScriptRefused s c f ∙ sym (expected_script words bytes fault w x))) p.1
   asked_ran s outcome.NoMemory w p f a b c = some_all left (Asked s) (λ bytes. inr (its_own memory_line status.NoMemory s c f))
 
   pub asked_of : (s : Status) (o : Outcome) → Did o → Told s o → (rose → ⊥) → (fell → ⊥) → (lost → ⊥) → IfSome left (Asked s)

@@ -1,3 +1,2 @@
-pub mod Pairs
 pub mod Ended
-pub mod Whole
+pub mod Texts

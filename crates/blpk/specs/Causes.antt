@@ -1,13 +1,14 @@
 -- What each status says, and what each outcome of the command comes to.
-use Rattle.std.specs.Prelude.{◌≡◌, ◌⊎◌, ℕ, List, [], drop, Option, Some, None, IfSome, Result, Ok, Err, ⊤}
-use Rattle.std.specs.Io.KnownBytes.{Appends}
-use Rattle.bk_base.specs.Written.{IsFront}
-use Rattle.bk_state.specs.declared.Image.{Image}
-use Rattle.bk_state.specs.FirstImage.{first_image_of}
-use Rattle.bk_system.specs.declared.TypedAt.{TypedAt}
-use Rattle.bk_system.specs.Report.{report_of}
+use Rattle.std.specs.Prelude.{◌≡◌, ◌⊎◌, ℕ, List, [], Option, Some, None, IfSome, Result, Ok, Err, ⊤}
+use Rattle.bk_image.specs.declared.fault.ImageFault.{ImageFault}
+use Rattle.bk_image.specs.Image.{image_of}
+use Rattle.bk_replay.specs.declared.replaying.RunStop.{RunStop}
+use Rattle.bk_replay.specs.declared.replaying.RunStop.TheVariants as stop
+use Rattle.bk_replay.specs.Replayed.{IsNoImage, IsNoScript, OfReport, script_after}
+use Rattle.bk_kernel.specs.declared.kernel.Summary.{Summary}
+use Rattle.bk_state.specs.declared.image.Image.{Image}
+use Rattle.bk_system.specs.declared.script.TypedAt.{TypedAt}
 use Rattle.bk_script.specs.declared.fault.ScriptFault.{ScriptFault}
-use Rattle.bk_script.specs.Lines.{script_of}
 use Rattle.blpk.specs.Lines.{usage_line, image_line, script_line, read_line, memory_line}
 use Rattle.blpk.specs.Words.{command_of}
 use Rattle.blpk.specs.declared.words.Command.{Command}
@@ -16,40 +17,6 @@ use Rattle.blpk.specs.declared.status.Status.{Status}
 use Rattle.blpk.specs.declared.status.Status.TheVariants as status
 use Rattle.blpk.specs.declared.status.Outcome.{Outcome}
 use Rattle.blpk.specs.declared.status.Outcome.TheVariants as outcome
-
--- ---- the input
-
--- the bytes after a first image
-abbrev pub after_image : List ℕ → List ℕ
-after_image bytes = drop 290 bytes
-
--- the script of the bytes after an image
-abbrev pub script_after : Image → List ℕ → Result (List TypedAt × ℕ) ScriptFault
-script_after image bytes = script_of image.lines image.turns (after_image bytes)
-
--- the bytes are those of an image, and then of a script for it
-pub record Spells (bytes : List ℕ) (image : Image) (records : List TypedAt) (slots : ℕ) : Type 0 where
-  pub image_is : first_image_of bytes ≡ Some image
-  pub script_is : script_after image bytes ≡ Ok (records, slots)
-
--- no prefix of the bytes is an image
-abbrev pub IsNoImage : List ℕ → Type 0
-IsNoImage bytes = first_image_of bytes ≡ None
-
--- an image is a prefix, and what follows it is no script for it
-pub record IsNoScript (bytes : List ℕ) : Type 0 where
-  pub image : Image
-  pub fault : ScriptFault
-  pub image_is : first_image_of bytes ≡ Some image
-  pub script_is : script_after image bytes ≡ Err fault
-
--- the bytes are an image and a script, and this holds of the report of their run
-pub record OfReport (P : List ℕ → Type 0) (bytes : List ℕ) : Type 0 where
-  pub image : Image
-  pub records : List TypedAt
-  pub slots : ℕ
-  pub spells : Spells bytes image records slots
-  pub report : P (report_of image records slots)
 
 -- ---- statuses
 
@@ -68,15 +35,11 @@ IsRefusal status.NoMemory = ⊤
 abbrev pub Row : (words : List (List ℕ)) (left : Option (List ℕ)) (rose : Type 0) → Status → (line : List ℕ) → Type 0
 Row words left rose status.Ok line = ⊥
 Row words left rose status.Usage line = (command_of words ≡ None) × (line ≡ usage_line)
-Row words left rose status.ImageRefused line = (command_of words ≡ Some Run) × IfSome left IsNoImage × (line ≡ image_line)
-Row words left rose status.ScriptRefused line = (command_of words ≡ Some Run) × IfSome left IsNoScript × (line ≡ script_line)
+Row words left rose status.ImageRefused line = (command_of words ≡ Some Run) × ((fault : ImageFault) × IfSome left (IsNoImage fault) × (line ≡ image_line fault))
+Row words left rose status.ScriptRefused line = (command_of words ≡ Some Run) × ((fault : ScriptFault) × IfSome left (IsNoScript fault) × (line ≡ script_line fault))
 Row words left rose status.ReadFault line = (command_of words ≡ Some Run) × rose × (line ≡ read_line)
 Row words left rose status.WriteFault line = ⊥
 Row words left rose status.NoMemory line = (command_of words ≡ Some Run) × (line ≡ memory_line)
-
--- a front of the text was taken
-abbrev pub TookPart : (before after : Option (List ℕ)) (text : List ℕ) → Type 0
-TookPart before after text = (front : List ℕ) × IsFront front text × Appends before after front
 
 -- the output failed: its count rose (`fell`), a front of the report is on it, and the error output is untouched (`quiet`)
 abbrev pub ByOut : (words : List (List ℕ)) (left : Option (List ℕ)) (fell quiet : Type 0) (part : List ℕ → Type 0) → Type 0
@@ -93,12 +56,12 @@ abbrev pub by_script : Result (List TypedAt × ℕ) ScriptFault → Status
 by_script (Ok script) = status.Ok
 by_script (Err fault) = status.ScriptRefused
 
-abbrev pub by_image : Option Image → List ℕ → Status
-by_image (Some image) bytes = by_script (script_after image bytes)
-by_image None bytes = status.ImageRefused
+abbrev pub by_image : Result (Image × ℕ) ImageFault → List ℕ → Status
+by_image (Ok image) bytes = by_script (script_after image.0 image.1 bytes)
+by_image (Err fault) bytes = status.ImageRefused
 
 abbrev pub by_command : Option Command → List ℕ → Status
-by_command (Some Run) bytes = by_image (first_image_of bytes) bytes
+by_command (Some Run) bytes = by_image (image_of bytes) bytes
 by_command None bytes = status.Usage
 
 abbrev pub expected : (words : List (List ℕ)) (bytes : List ℕ) → Status
@@ -106,14 +69,23 @@ expected words bytes = by_command (command_of words) bytes
 
 -- ---- outcomes
 
+-- what the answer of a run comes to
+abbrev pub outcome_of : Result Summary RunStop → Outcome
+outcome_of (Ok summary) = outcome.Written
+outcome_of (Err stop.Read) = outcome.Read
+outcome_of (Err (stop.Image fault)) = outcome.Image fault
+outcome_of (Err (stop.Script fault)) = outcome.Script fault
+outcome_of (Err stop.Write) = outcome.Write
+outcome_of (Err stop.NoMemory) = outcome.NoMemory
+
 -- What `run` came to. `now` is what the input has left after it; `kept` says that the output is untouched, `rose` and `fell`
 -- that the counts of faults of the input and of the output rose, `took` and `part` what the output took.
 abbrev pub Ran : (left now : Option (List ℕ)) (kept rose fell : Type 0) (took part : List ℕ → Type 0) → Outcome → Type 0
 Ran left now kept rose fell took part outcome.Written = IfSome left (λ bytes. (now ≡ Some []) × OfReport took bytes)
 Ran left now kept rose fell took part outcome.Usage = ⊥
 Ran left now kept rose fell took part outcome.Read = kept × rose
-Ran left now kept rose fell took part outcome.Image = kept × IfSome left IsNoImage
-Ran left now kept rose fell took part outcome.Script = kept × IfSome left IsNoScript
+Ran left now kept rose fell took part (outcome.Image fault) = kept × IfSome left (IsNoImage fault)
+Ran left now kept rose fell took part (outcome.Script fault) = kept × IfSome left (IsNoScript fault)
 Ran left now kept rose fell took part outcome.Write = fell × IfSome left (OfReport part)
 Ran left now kept rose fell took part outcome.NoMemory = kept
 
@@ -131,7 +103,7 @@ abbrev pub Finished : (quiet lost : Type 0) (said begun : List ℕ → Type 0) �
 Finished quiet lost said begun s outcome.Written = (s ≡ status.Ok) × quiet
 Finished quiet lost said begun s outcome.Usage = Said lost said begun usage_line status.Usage s
 Finished quiet lost said begun s outcome.Read = Said lost said begun read_line status.ReadFault s
-Finished quiet lost said begun s outcome.Image = Said lost said begun image_line status.ImageRefused s
-Finished quiet lost said begun s outcome.Script = Said lost said begun script_line status.ScriptRefused s
+Finished quiet lost said begun s (outcome.Image fault) = Said lost said begun (image_line fault) status.ImageRefused s
+Finished quiet lost said begun s (outcome.Script fault) = Said lost said begun (script_line fault) status.ScriptRefused s
 Finished quiet lost said begun s outcome.Write = (s ≡ status.WriteFault) × quiet
 Finished quiet lost said begun s outcome.NoMemory = Said lost said begun memory_line status.NoMemory s

@@ -1,5 +1,4 @@
 pub mod Statuses
 pub mod Words
 pub mod Lines
-pub mod Reading
 pub mod Causes

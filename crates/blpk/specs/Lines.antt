@@ -1,14 +1,20 @@
 -- The lines of refusals.
-use Rattle.std.specs.Prelude.{ℕ, List, codes}
+use Rattle.std.specs.Prelude.{ℕ, List, ◌++◌, codes, decimal}
+use Rattle.bk_image.specs.Texts.{field_text}
+use Rattle.bk_image.specs.declared.fault.ImageFault.{ImageFault}
+use Rattle.bk_script.specs.Fault.{kind_text}
+use Rattle.bk_script.specs.declared.fault.ScriptFault.{ScriptFault}
 
 abbrev pub usage_line : List ℕ
 usage_line = codes "usage: blpk run | build | list | gen N\n"
 
-abbrev pub image_line : List ℕ
-image_line = codes "image refused at 0: first\n"
+-- the place of the fault and its field
+abbrev pub image_line : ImageFault → List ℕ
+image_line fault = codes "image refused at " ++ decimal fault.at ++ codes ": " ++ field_text fault.field ++ codes "\n"
 
-abbrev pub script_line : List ℕ
-script_line = codes "script refused at line 0: first\n"
+-- the line of the fault and its kind
+abbrev pub script_line : ScriptFault → List ℕ
+script_line fault = codes "script refused at line " ++ decimal fault.line ++ codes ": " ++ kind_text fault.kind ++ codes "\n"
 
 abbrev pub read_line : List ℕ
 read_line = codes "read fault\n"

@@ -3,8 +3,10 @@
 ghost use Rattle.std.specs.Prelude.{◌≡◌};
 ghost use Rattle.std.specs.Io.KnownBytes.{Appends};
 ghost use Rattle.bk_base.specs.Outside.{Rose};
-ghost use Rattle.blpk.specs.Causes.{Finished, Said, TookPart};
+ghost use Rattle.bk_replay.specs.Replayed.{TookPart};
+ghost use Rattle.blpk.specs.Causes.{Finished, Said};
 
+use crate::lines::{image_line, script_line};
 use crate::status::{Outcome, Status};
 use bk_base::{Sink, write_all};
 
@@ -33,12 +35,8 @@ pub fn finish<E: Sink>(err: &mut E, outcome: Outcome) -> Status
             Status::Usage,
         ),
         Outcome::Read => say(err, b"read fault\n", Status::ReadFault),
-        Outcome::Image => say(err, b"image refused at 0: first\n", Status::ImageRefused),
-        Outcome::Script => say(
-            err,
-            b"script refused at line 0: first\n",
-            Status::ScriptRefused,
-        ),
+        Outcome::Image(fault) => say(err, image_line(fault).as_slice(), Status::ImageRefused),
+        Outcome::Script(fault) => say(err, script_line(fault).as_slice(), Status::ScriptRefused),
         Outcome::NoMemory => say(err, b"no memory\n", Status::NoMemory),
     }
 }

@@ -1,15 +1,15 @@
 //! The command: an image and a script in, a report out.
 //!
 //! Model: `specs/Words.antt` (the words), `specs/Lines.antt` (the lines of refusals), `specs/Causes.antt` (what each status
-//! says), over `report_of` of `bk_system`, `first_image_of` of `bk_state` and `script_of` of `bk_script`.
+//! says), over `report_of` of `bk_system`, `image_of` of `bk_image` and `script_of` of `bk_script`.
 //! Calls: `run_blpk`; `Status::number`.
 //! Proved: with status Ok exactly the report of the abstract run went out and all input was read; every other status has its
 //! cause and its line; a failed write leaves a front of the report. `main` and the standard streams are tested alone.
-//! Stands on: `bk_replay`, `bk_script`.
+//! Stands on: `arrayvec`, `bk_base`, `bk_image`, `bk_replay`, `bk_report`, `bk_script`.
 #![tactic(auto)]
 
 mod finish;
-mod image;
+mod lines;
 mod perform;
 mod status;
 #[cfg(test)]

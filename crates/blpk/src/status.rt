@@ -1,6 +1,9 @@
 ghost use Rattle.std.specs.Prelude.{◌≡◌};
 ghost use Rattle.blpk.specs.Statuses.{number_of};
 
+use bk_image::ImageFault;
+use bk_script::ScriptFault;
+
 /// How the command ended.
 #[derive(Clone, Copy, PartialEq, Eq, Debug)]
 pub enum Status {
@@ -43,8 +46,8 @@ pub enum Outcome {
     Written,
     Usage,
     Read,
-    Image,
-    Script,
+    Image(ImageFault),
+    Script(ScriptFault),
     Write,
     NoMemory,
 }

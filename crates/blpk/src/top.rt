@@ -4,7 +4,8 @@ ghost use Rattle.std.specs.Prelude.{◌≡◌, ◌⊎◌, IfSome, Some, None, []
 ghost use Rattle.std.specs.Io.KnownBytes.{Appends};
 ghost use Rattle.bk_base.specs.Outside.{Rose};
 ghost use Rattle.blpk.specs.Words.{command_of, texts};
-ghost use Rattle.blpk.specs.Causes.{OfReport, Row, IsRefusal, TookPart, ByOut, ByErr, expected};
+ghost use Rattle.bk_replay.specs.Replayed.{OfReport, TookPart};
+ghost use Rattle.blpk.specs.Causes.{Row, IsRefusal, ByOut, ByErr, expected};
 
 use crate::finish::finish;
 use crate::perform::perform;

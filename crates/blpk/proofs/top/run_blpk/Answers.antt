@@ -2,7 +2,7 @@ use Rattle.std.proofs.Common.{◌≡◌}
 use Rattle.std.specs.Io.KnownBytes.{Appends}
 use Rattle.bk_base.specs.Outside.{Rose}
 use Rattle.blpk.specs.Words.{texts}
-use Rattle.blpk.specs.Causes.{TookPart}
+use Rattle.bk_replay.specs.Replayed.{TookPart}
 use Rattle.blpk.proofs.Ended.{write_of}
 use Rattle.blpk.proofs.top.run_blpk.Goals as goal
 
