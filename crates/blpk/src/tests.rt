@@ -3,9 +3,26 @@
 use crate::status::Status;
 use crate::top::run_blpk;
 use bk_base::{MemSink, MemSource};
-use bk_state::{FIRST_BACK, FIRST_FRONT};
 use std::alloc::{AllocError, Global};
 use std::test::Fail;
+
+/// The bytes of the sample's image before the 14 words of its program: the header, the levels, the schedule, the subjects,
+/// root and the record of the segment `/0`.
+const FRONT: [u8; 170] = [
+    66, 76, 80, 75, 1, 0, 32, 0, 2, 2, 2, 2, 4, 0, 6, 0, 0, 0, 0, 0, 1, 0, 0, 0, 0, 1, 0, 0, 3, 3,
+    0, 0, 0, 0, 0, 0, 0, 0, 0, 0, 0, 17, 0, 0, 0, 0, 0, 0, 0, 0, 0, 0, 0, 0, 0, 0, 0, 0, 0, 0, 0,
+    0, 0, 0, 1, 16, 0, 16, 0, 0, 1, 1, 3, 3, 0, 0, 0, 0, 0, 0, 0, 0, 0, 0, 0, 18, 0, 0, 0, 0, 0, 0,
+    0, 0, 0, 0, 0, 0, 0, 0, 0, 0, 0, 0, 0, 0, 0, 0, 1, 16, 0, 16, 0, 0, 0, 0, 0, 0, 0, 0, 0, 0, 16,
+    0, 17, 0, 0, 0, 0, 0, 0, 0, 0, 0, 0, 0, 0, 0, 0, 0, 0, 0, 0, 16, 0, 0, 1, 1, 0, 0, 0, 0, 51, 0,
+    0, 0, 0, 0, 0, 0, 0, 0, 0, 0, 0, 0, 0, 0, 14, 0,
+];
+
+/// The bytes of the sample's image after its program: the records of the two lines, and who holds what.
+const BACK: [u8; 92] = [
+    0, 17, 0, 0, 3, 0, 0, 0, 0, 0, 4, 0, 0, 0, 0, 0, 0, 0, 0, 0, 0, 0, 0, 0, 0, 0, 0, 0, 0, 18, 0,
+    0, 3, 1, 1, 0, 0, 0, 64, 0, 0, 0, 0, 0, 0, 0, 0, 0, 0, 0, 0, 0, 0, 0, 0, 0, 0, 1, 0, 0, 0, 0,
+    0, 2, 0, 16, 0, 0, 0, 4, 0, 17, 0, 0, 1, 1, 0, 0, 0, 0, 1, 2, 0, 16, 0, 0, 1, 4, 0, 18, 0, 0,
+];
 
 /// The 14 words of the sample's program, low bytes first.
 const ECHO: [u8; 28] = [
@@ -36,11 +53,12 @@ const TYPED: &[u8] = b"0 0 6869\n1 1 4849\nEND 2\n";
 
 const USAGE: &[u8] = b"usage: blpk run | build | list | gen N\n";
 
-const NO_IMAGE: &[u8] = b"image refused at 0: first\n";
+const TOO_LONG: &[u8] = b"script refused at line 0: long\n";
 
-const NO_SCRIPT: &[u8] = b"script refused at line 0: first\n";
+/// The first call of the sample, where a byte was typed.
+const FIRST_CALL: &[u8] = b"C 0 2 0 020 000000 010400 000000 000000 000000 010400 yes 0\n";
 
-const WRONG_WORDS: [&[&str]; 5] = [&["run", "x"], &[], &["RUN"], &["--help"], &["build"]];
+const WRONG_WORDS: [&[&str]; 5] = [&["run", "x"], &[], &["RUN"], &["gen"], &["gen", "01"]];
 
 /// How the outside of a call behaves: the bytes of a read, the reads that fail, the room of the output, the bytes of a write,
 /// the writes that fail, and the room of the error output.
@@ -105,9 +123,9 @@ fn gives(
 
 /// The sample's image with other program bytes, and a script behind it.
 fn with_program(alloc: Global, program: &[u8], script: &[u8]) -> Result<Vec<u8>, AllocError> {
-    let mut bytes = FIRST_FRONT.to_vec(alloc)?;
+    let mut bytes = FRONT.to_vec(alloc)?;
     bytes.extend_from_slice(program)?;
-    bytes.extend_from_slice(&FIRST_BACK)?;
+    bytes.extend_from_slice(&BACK)?;
     bytes.extend_from_slice(script)?;
     Ok(bytes)
 }
@@ -145,19 +163,27 @@ fn echoes_what_is_typed(rt: HostRuntime) -> Result<(), Fail> {
 }
 
 #[test]
-fn stops_at_what_is_not_built(rt: HostRuntime) -> Result<(), Fail> {
-    let mut program = ECHO;
-    program[0] = 5;
-    program[1] = 0;
-    let input = with_program(rt.alloc(), &program, b"END 1\n")?;
-    let report = b"F 0 0 0 9 000000 stop\nEND 1 32 1 0\n";
+fn answers_no_where_nothing_is_typed(rt: HostRuntime) -> Result<(), Fail> {
+    let input = sample(rt.alloc(), b"0 0 6869\nEND 2\n")?;
+    let mut report = Vec::new(rt.alloc());
+    // The lines of slot 0 are the same.
+    for line in REPORT.split(|byte| *byte == b'\n').take(8) {
+        report.extend_from_slice(line)?;
+        report.push(b'\n')?;
+    }
+    report.extend_from_slice(
+        b"C 1 2 1 020 000000 011000 000000 000000 000000 011000 no 9
+C 1 5 1 024 000001 000011 000000 000000 000000 011000 yes 0
+END 2 64 38 8
+",
+    )?;
     assert!(rt;
         gives(
             rt.alloc(),
             &["run"],
             &input,
             AMPLE,
-            (Status::Ok, report, b"")
+            (Status::Ok, &report, b"")
         )?
     );
     Ok(())
@@ -194,15 +220,30 @@ fn refuses_wrong_words(rt: HostRuntime) -> Result<(), Fail> {
 }
 
 #[test]
-fn refuses_what_is_no_first_image(rt: HostRuntime) -> Result<(), Fail> {
+fn tells_the_first_fault_of_an_image(rt: HostRuntime) -> Result<(), Fail> {
     let alloc = rt.alloc();
-    // A byte outside the program is another.
-    for place in [
-        0, 4, 6, 8, 15, 25, 48, 65, 122, 146, 169, 198, 231, 254, 289,
-    ] {
+    // A byte of the sample, what it is made to be, and the line.
+    let rows: [(usize, u8, &[u8]); 15] = [
+        (0, 0, b"image refused at 0: magic\n"),
+        (4, 2, b"image refused at 4: version\n"),
+        (7, 17, b"image refused at 6: turns\n"),
+        (8, 0, b"image refused at 8: counts\n"),
+        (17, 1, b"image refused at 16: level\n"),
+        (25, 2, b"image refused at 25: schedule\n"),
+        (48, 1, b"image refused at 26: entry\n"),
+        (65, 32, b"image refused at 65: window\n"),
+        (122, 0, b"image refused at 114: quota\n"),
+        (146, 4, b"image refused at 142: kind\n"),
+        (147, 0, b"image refused at 142: blocks\n"),
+        (149, 1, b"image refused at 142: zero\n"),
+        (169, 1, b"image refused at 142: contents\n"),
+        (254, 2, b"image refused at 254: subject\n"),
+        (285, 8, b"image refused at 284: row\n"),
+    ];
+    for (place, byte, line) in rows {
         let mut input = sample(alloc, TYPED)?;
-        if let Some(byte) = input.get_mut(place) {
-            *byte = byte.wrapping_add(1);
+        if let Some(old) = input.get_mut(place) {
+            *old = byte;
         }
         assert!(rt;
             gives(
@@ -210,12 +251,19 @@ fn refuses_what_is_no_first_image(rt: HostRuntime) -> Result<(), Fail> {
                 &["run"],
                 &input,
                 AMPLE,
-                (Status::ImageRefused, b"", NO_IMAGE)
+                (Status::ImageRefused, b"", line)
             )?
         );
     }
     // The image is cut short.
-    for length in [0, 1, 16, 170, 289] {
+    let rows: [(usize, &[u8]); 5] = [
+        (0, b"image refused at 0: end\n"),
+        (1, b"image refused at 1: end\n"),
+        (16, b"image refused at 16: end\n"),
+        (171, b"image refused at 171: end\n"),
+        (289, b"image refused at 289: end\n"),
+    ];
+    for (length, line) in rows {
         let mut input = sample(alloc, b"")?;
         input.truncate(length);
         assert!(rt;
@@ -224,24 +272,11 @@ fn refuses_what_is_no_first_image(rt: HostRuntime) -> Result<(), Fail> {
                 &["run"],
                 &input,
                 AMPLE,
-                (Status::ImageRefused, b"", NO_IMAGE)
+                (Status::ImageRefused, b"", line)
             )?
         );
     }
-    // The last word of the program is 0.
-    let mut program = ECHO;
-    program[26] = 0;
-    program[27] = 0;
-    let input = with_program(alloc, &program, TYPED)?;
-    assert!(rt;
-        gives(
-            rt.alloc(),
-            &["run"],
-            &input,
-            AMPLE,
-            (Status::ImageRefused, b"", NO_IMAGE)
-        )?
-    );
+    // The line doesn't go out whole.
     let outside = Outside {
         error_room: 5,
         ..AMPLE
@@ -250,7 +285,7 @@ fn refuses_what_is_no_first_image(rt: HostRuntime) -> Result<(), Fail> {
         gives(
             rt.alloc(),
             &["run"],
-            &input,
+            b"",
             outside,
             (Status::WriteFault, b"", b"image")
         )?
@@ -259,23 +294,27 @@ fn refuses_what_is_no_first_image(rt: HostRuntime) -> Result<(), Fail> {
 }
 
 #[test]
-fn refuses_what_is_no_script(rt: HostRuntime) -> Result<(), Fail> {
-    for script in [
-        b"".as_slice(),
-        b"END x\n",
-        b"END 1",
-        b"1 0 61\n0 0 61\nEND 2\n",
-        b"0 2 61\nEND 1\n",
-        b"END 0\nx",
-        b"1 0 61\nEND 1\n",
-        b"0 0 6\nEND 1\n",
-        b"0 0 6A\nEND 1\n",
-        b"00 0 61\nEND 1\n",
-        b"0  0 61\nEND 1\n",
-        b"0 0 \nEND 1\n",
-        b"65535 0 61\nEND 1\n",
-        b"END 65536\n",
-    ] {
+fn tells_the_first_fault_of_a_script(rt: HostRuntime) -> Result<(), Fail> {
+    let rows: [(&[u8], &[u8]); 11] = [
+        (b"", b"script refused at line 1: end\n"),
+        (b"END 1", b"script refused at line 1: end\n"),
+        (b"END x\n", b"script refused at line 1: form\n"),
+        (b"0 0 6A\nEND 1\n", b"script refused at line 1: form\n"),
+        (b"65535 0 61\nEND 1\n", b"script refused at line 1: limit\n"),
+        (b"END 65536\n", b"script refused at line 1: limit\n"),
+        (b"0 2 61\nEND 1\n", b"script refused at line 1: line\n"),
+        (
+            b"1 0 61\n0 0 61\nEND 2\n",
+            b"script refused at line 2: order\n",
+        ),
+        (b"1 0 61\nEND 1\n", b"script refused at line 2: slot\n"),
+        (b"END 0\nx", b"script refused at line 2: after\n"),
+        (
+            b"0 0 61\n1 0 61\n2 0 61\n3 0 61\n4 0 61\n5 0 61\n6 0 61\n7 0 61\n8 0 61\n9\n",
+            b"script refused at line 10: form\n",
+        ),
+    ];
+    for (script, line) in rows {
         let input = sample(rt.alloc(), script)?;
         assert!(rt;
             gives(
@@ -283,10 +322,35 @@ fn refuses_what_is_no_script(rt: HostRuntime) -> Result<(), Fail> {
                 &["run"],
                 &input,
                 AMPLE,
-                (Status::ScriptRefused, b"", NO_SCRIPT)
+                (Status::ScriptRefused, b"", line)
             )?
         );
     }
+    Ok(())
+}
+
+#[test]
+fn takes_a_record_of_more_than_a_line_keeps(rt: HostRuntime) -> Result<(), Fail> {
+    let mut script = b"0 0 ".to_vec(rt.alloc())?;
+    for _n in 0..65 {
+        script.extend_from_slice(b"61")?;
+    }
+    script.extend_from_slice(b"\nEND 1\n")?;
+    let input = sample(rt.alloc(), &script)?;
+    // The run begins, and ends as its output has room for one line alone.
+    let outside = Outside {
+        room: FIRST_CALL.len() as u32,
+        ..AMPLE
+    };
+    assert!(rt;
+        gives(
+            rt.alloc(),
+            &["run"],
+            &input,
+            outside,
+            (Status::WriteFault, FIRST_CALL, b"")
+        )?
+    );
     Ok(())
 }
 
@@ -325,7 +389,7 @@ fn reads_a_script_up_to_its_limit(rt: HostRuntime) -> Result<(), Fail> {
             &["run"],
             &input,
             AMPLE,
-            (Status::ScriptRefused, b"", NO_SCRIPT)
+            (Status::ScriptRefused, b"", TOO_LONG)
         )?
     );
     // One byte less is taken: the run begins, and ends as its output has room for one line alone.
