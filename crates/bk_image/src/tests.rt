@@ -5,9 +5,27 @@ use bitflags::Flags;
 use bk_base::Bytes;
 use bk_object::Kind;
 use bk_space::Mode;
-use bk_state::{FIRST_BACK, FIRST_FRONT, Hold, ObjectRec, SubjectRec};
+use bk_state::{Hold, ObjectRec, SubjectRec};
 use std::alloc::{AllocError, Global};
 use std::test::Fail;
+
+/// The bytes of the sample before the 14 words of its program: the header, the levels, the schedule, the subjects, root and
+/// the record of the segment `/0`.
+const FRONT: [u8; 170] = [
+    66, 76, 80, 75, 1, 0, 32, 0, 2, 2, 2, 2, 4, 0, 6, 0, 0, 0, 0, 0, 1, 0, 0, 0, 0, 1, 0, 0, 3, 3,
+    0, 0, 0, 0, 0, 0, 0, 0, 0, 0, 0, 17, 0, 0, 0, 0, 0, 0, 0, 0, 0, 0, 0, 0, 0, 0, 0, 0, 0, 0, 0,
+    0, 0, 0, 1, 16, 0, 16, 0, 0, 1, 1, 3, 3, 0, 0, 0, 0, 0, 0, 0, 0, 0, 0, 0, 18, 0, 0, 0, 0, 0, 0,
+    0, 0, 0, 0, 0, 0, 0, 0, 0, 0, 0, 0, 0, 0, 0, 0, 1, 16, 0, 16, 0, 0, 0, 0, 0, 0, 0, 0, 0, 0, 16,
+    0, 17, 0, 0, 0, 0, 0, 0, 0, 0, 0, 0, 0, 0, 0, 0, 0, 0, 0, 0, 16, 0, 0, 1, 1, 0, 0, 0, 0, 51, 0,
+    0, 0, 0, 0, 0, 0, 0, 0, 0, 0, 0, 0, 0, 0, 14, 0,
+];
+
+/// The bytes of the sample after its program: the records of the two lines, and who holds what.
+const BACK: [u8; 92] = [
+    0, 17, 0, 0, 3, 0, 0, 0, 0, 0, 4, 0, 0, 0, 0, 0, 0, 0, 0, 0, 0, 0, 0, 0, 0, 0, 0, 0, 0, 18, 0,
+    0, 3, 1, 1, 0, 0, 0, 64, 0, 0, 0, 0, 0, 0, 0, 0, 0, 0, 0, 0, 0, 0, 0, 0, 0, 0, 1, 0, 0, 0, 0,
+    0, 2, 0, 16, 0, 0, 0, 4, 0, 17, 0, 0, 1, 1, 0, 0, 0, 0, 1, 2, 0, 16, 0, 0, 1, 4, 0, 18, 0, 0,
+];
 
 /// The 14 words of the sample's program, low bytes first.
 const ECHO: [u8; 28] = [
@@ -24,9 +42,9 @@ const WORDS: [u16; 14] = [
 /// The 290 bytes of the sample: a header of 16, levels at 16 and 20, a schedule at 24, subjects at 26 and 70, objects at
 /// 114 (`/`), 142 (`/0`), 198 (`/1`) and 226 (`/2`), holds from 254 on.
 fn sample(alloc: Global) -> Result<Vec<u8>, AllocError> {
-    let mut bytes = FIRST_FRONT.to_vec(alloc)?;
+    let mut bytes = FRONT.to_vec(alloc)?;
     bytes.extend_from_slice(&ECHO)?;
-    bytes.extend_from_slice(&FIRST_BACK)?;
+    bytes.extend_from_slice(&BACK)?;
     Ok(bytes)
 }
 

@@ -7,6 +7,5 @@ pub mod Checks
 pub mod Changes
 pub mod Smallest
 pub mod Start
-pub mod FirstImage
 pub mod Calls
 pub mod Answers

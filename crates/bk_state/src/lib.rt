@@ -4,7 +4,7 @@
 //! what), `specs/Quota.antt` (governing cells and used numbers), `specs/Secure.antt` (the secure state),
 //! `specs/Checks.antt` and `specs/Changes.antt` (the nine rules: their checks in order, and what each changes),
 //! `specs/Calls.antt` and `specs/Answers.antt` (all kernel calls: checks, answer, what each changes),
-//! `specs/Start.antt` (the state that an image stands for), `specs/FirstImage.antt` (first images).
+//! `specs/Start.antt` (the state that an image stands for).
 //! Calls: none.
 //! Proved: a secure state is there (`specs/Smallest.antt`, `law_smallest`), and the checks of each call stand in one order
 //! (`law_order_of_checks`), each has its number (`law_numbers`), and what it looks at is told (`law_what_a_call_looks_at`); the crates above prove their calls against these definitions.
@@ -13,14 +13,12 @@
 
 mod call;
 mod clearance;
-mod first;
 mod image;
 mod laws;
 mod rule;
 
 pub use call::{Call, Service};
 pub use clearance::Clearance;
-pub use first::{FIRST_BACK, FIRST_FRONT};
 pub use image::{Hold, Holds, Image, ObjectRec, Objects, SubjectRec, Subjects, WindowRec, Windows};
 pub use laws::{law_numbers, law_order_of_checks, law_smallest, law_what_a_call_looks_at};
 pub use rule::Rule;
