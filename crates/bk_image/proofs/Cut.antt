@@ -1,6 +1,6 @@
 -- Bytes past the most that an image has decide nothing: the image, or the first fault, is that of a front which is longer.
-use Rattle.std.proofs.Common.{◌≡◌, ℕ, zero, suc, ◌+◌, ◌*◌, ◌≤◌, Bool, true, false, cond, ltb, List, [], ◌∷◌, ◌++◌, length, take, drop, Result, Ok, Err, refl, sym, ap, subst, ◌∙◌, arith, length-drop, ◌==◌}
-use Rattle.std.specs.Prelude.{not, is_none, nat_lt}
+use Rattle.std.proofs.Common.{◌≡◌, ℕ, zero, suc, ◌+◌, ◌*◌, ◌≤◌, Bool, true, false, ltb, List, [], ◌∷◌, ◌++◌, length, take, drop, Result, Ok, Err, refl, sym, ap, subst, arith, length-drop, ◌==◌}
+use Rattle.std.specs.Prelude.{not, is_none}
 use Rattle.std.proofs.lemmas.Bool.{le-ltb}
 use Rattle.std.proofs.lemmas.Bool.Decides.{nat_tests}
 use Rattle.std.proofs.lemmas.List.{length-append, take-append-le, drop-append-le}
@@ -13,7 +13,7 @@ use Rattle.bk_state.specs.declared.image.WindowRec.{WindowRec}
 use Rattle.bk_image.specs.declared.fault.ImageFault.{ImageFault}
 use Rattle.bk_image.specs.declared.fault.ImageField.{ImageField}
 use Rattle.bk_image.specs.declared.fault.ImageField.TheVariants as field
-use Rattle.bk_image.specs.Parts.{Rest, Reads, Check, ◌>>=◌, fault, first_failing, limit, part, checked, each_of, is_outside}
+use Rattle.bk_image.specs.Parts.{Rest, Reads, Check, ◌>>=◌, first_failing, limit, part, checked, each_of, is_outside}
 use Rattle.bk_image.specs.Numbers.{byte, word, words_of, path_in}
 use Rattle.bk_image.specs.Header.{is_magic, magic_at, byte_at, word_at, header_at}
 use Rattle.bk_image.specs.Subjects.{level_of, level_checks, level_at, schedule_checks, schedule_at, window_of, window_checks, window_at, subject_of, subject_fails, subject_at}

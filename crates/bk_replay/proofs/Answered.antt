@@ -1,5 +1,5 @@
 -- What the answer of a run is where no count rose.
-use Rattle.std.proofs.Common.{◌≡◌, ◌⊎◌, inl, inr, ℕ, List, [], refl, sym, ◌∙◌, ap, subst, Some, None, IfSome, Ok, Err}
+use Rattle.std.proofs.Common.{◌≡◌, inl, inr, ℕ, List, [], refl, Some, None, IfSome, Ok, Err}
 use Rattle.std.specs.Prelude.{Option, Result}
 use Rattle.bk_image.specs.Image.{image_of}
 use Rattle.bk_image.specs.declared.fault.ImageFault.{ImageFault}
@@ -11,7 +11,7 @@ use Rattle.bk_system.specs.Report.{report_of}
 use Rattle.bk_replay.specs.declared.replaying.RunStop.{RunStop}
 use Rattle.bk_replay.specs.declared.replaying.RunStop.TheVariants as stop
 use Rattle.bk_replay.specs.Played.{summary_of}
-use Rattle.bk_replay.specs.Replayed.{Spells, IsNoImage, IsNoScript, OfRun, OfReport, Replayed, IsAsked, by_script, by_image}
+use Rattle.bk_replay.specs.Replayed.{Spells, IsNoImage, IsNoScript, OfRun, Replayed, IsAsked, by_image}
 
 pub some_all : (left : Option (List ℕ)) (Q : List ℕ → Type 0) → ((bytes : List ℕ) → Q bytes) → IfSome left Q
 some_all None Q f = tt

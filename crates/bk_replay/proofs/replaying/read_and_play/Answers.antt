@@ -1,4 +1,4 @@
-use Rattle.std.proofs.Common.{◌≡◌, ◌∙◌, ◌<◌, ℕ, List, [], length, drop, refl, sym, ap, subst, arith, Some, None, IfSome, Ok, Err}
+use Rattle.std.proofs.Common.{◌≡◌, ◌∙◌, ◌<◌, ℕ, List, [], length, drop, refl, sym, ap, subst, arith, Some, IfSome, Ok, Err}
 use Rattle.std.specs.Io.KnownBytes.{IsAtEnd}
 use Rattle.bk_image.specs.declared.fault.ImageFault.{ImageFault}
 use Rattle.bk_image.specs.declared.fault.ImageStop.{ImageStop}
@@ -6,7 +6,6 @@ use Rattle.bk_image.specs.Image.{image_of}
 use Rattle.bk_image.specs.Parts.{Gives}
 use Rattle.bk_state.specs.declared.image.Image.{Image}
 use Rattle.bk_system.specs.declared.script.TypedAt.{TypedAt}
-use Rattle.bk_system.specs.Report.{report_of}
 use Rattle.bk_script.specs.declared.fault.ScriptFault.{ScriptFault}
 use Rattle.bk_script.specs.declared.fault.ScriptStop.{ScriptStop}
 use Rattle.bk_script.specs.Lines.{script_of}
