@@ -1,5 +1,5 @@
 -- The words of faults are short.
-use Rattle.std.proofs.Common.{ℕ, ◌≤◌, length, arith}
+use Rattle.std.proofs.Common.{◌≤◌, length, arith}
 use Rattle.bk_image.specs.Texts.{field_text}
 use Rattle.bk_image.specs.declared.fault.ImageField.{ImageField}
 use Rattle.bk_image.specs.declared.fault.ImageField.TheVariants as field
