@@ -16,6 +16,8 @@ mod loading;
 mod reflection;
 mod subject_bus;
 mod tables;
+#[cfg(test)]
+mod tests;
 mod turn;
 
 pub use kernel::{Kernel, Summary};
