@@ -1,11 +1,9 @@
 -- The kernel's state after a change of store and core.
 use Rattle.std.proofs.Common.{◌≡◌, ℕ, zero, suc, ◌+◌, ◌≤◌, ◌<◌, Bool, true, false, List, [], ◌∷◌, length, map, get_or, Option, Some, None, refl, sym, ap, subst, ◌∙◌, arith}
-use Rattle.std.specs.Prelude.{All, option_map, if◌then◌else◌}
-use Rattle.std.specs.FinMap as finite
+use Rattle.std.specs.Prelude.{All, if◌then◌else◌}
 use Rattle.std.proofs.lemmas.List.{get_or_read, length-map}
 use Rattle.std.proofs.lemmas.List.Elements.{All-from_get_or}
-use Rattle.bk_path.specs.Paths.{Path, path_cmp}
-use Rattle.bk_path.specs.Orders.{path_total, path_apart}
+use Rattle.bk_path.specs.Paths.{Path}
 use Rattle.bk_space.specs.AddrSpace.{Write, applied}
 use Rattle.bk_space.specs.Counts.{counted_on}
 use Rattle.bk_space.specs.Status.{word_of}
@@ -19,17 +17,14 @@ use Rattle.bk_core.specs.Memory.{Memory}
 use Rattle.bk_process.specs.declared.process.Process.{Process}
 use Rattle.bk_process.specs.declared.status.Status9.TheVariants.{Stopped}
 use Rattle.bk_report.specs.declared.item.ReportItem.TheVariants as items
-use Rattle.bk_state.specs.Maps.{map_values}
-use Rattle.bk_state.specs.State.{State, Object, Contents, Children, Words, Messages, Typed}
-use Rattle.bk_state.specs.Start.{is_line, clearance_from, process_from, state_of}
+use Rattle.bk_state.specs.State.{State}
+use Rattle.bk_state.specs.Start.{clearance_from, process_from, state_of}
 use Rattle.bk_state.specs.Answers.{called}
 use Rattle.bk_state.specs.declared.clearance.Clearance.{Clearance}
 use Rattle.bk_state.specs.declared.image.Image.{Image}
 use Rattle.bk_state.proofs.AlikeCalls.{called-alike}
-use Rattle.bk_state.proofs.MapsKept.{get-map_values}
-use Rattle.bk_store.specs.Stored.{Stored, Queue, NoQueue, OfMailbox, OfLine, kept, objects_of, waiting_in, with_input, with_typed}
+use Rattle.bk_store.specs.Stored.{Stored, objects_of}
 use Rattle.bk_store.specs.Stands.{StandsFor}
-use Rattle.bk_store.proofs.Stands.{stands-typed}
 use Rattle.bk_image.specs.Accepted.{IsAccepted}
 use Rattle.bk_image.proofs.SecureLists.{lt_of, mapped_at, not_false}
 use Rattle.bk_calls.specs.Made.{seen_by}
@@ -37,7 +32,6 @@ use Rattle.bk_calls.specs.declared.caller.Caller.{Caller}
 use Rattle.bk_calls.proofs.Seen.{clearance-seen, subjects-seen}
 use Rattle.bk_system.specs.Turn.{entered, faulted, less, pushed, with_process, with_pushes, written}
 use Rattle.bk_system.specs.Space.{space_of}
-use Rattle.bk_system.specs.Slot.{arrived, taking, typed}
 use Rattle.bk_kernel.specs.Beginning.{state_with}
 use Rattle.bk_kernel.specs.declared.beginning.Beginning.{Beginning}
 use Rattle.bk_kernel.specs.Tables.{state_from, IsKept, IsKnown}
@@ -149,73 +143,6 @@ call-alike clearances lines turns schedule processes store words v caller p numb
     (clearance-seen caller store words caller.subject under ∙ (λ i. record { greatest = greatest i; current = current i }) ∙ get_or_read clearances caller.subject c below found (record { greatest = 0; current = 0 }))
     (subjects-seen caller store words ∙ subjects) p number
     ∙ ap (λ (x : State). called x caller.subject p number) is
-
--- ---- typed bytes
-
-typing-agrees : (byte : ℕ) (q : Queue) → waiting_in (with_input (λ bytes. kept bytes byte) q) ≡ typed (byte ∷ []) (waiting_in q)
-typing-agrees byte NoQueue = refl
-typing-agrees byte (OfMailbox waiting) = refl
-typing-agrees byte (OfLine bytes) = refl
-
--- a byte arrives
-pub typed-kept : (clearances : List Clearance) (lines : List ℕ) (turns : ℕ) (schedule : List ℕ) (processes : List Process) (store new_store : Stored) (words : List ℕ) (v : State) (line byte : ℕ) →
-    state_from clearances lines turns schedule processes store words ≡ v → store.lines ≡ length lines → new_store ≡ with_typed line byte store →
-    state_from clearances lines turns schedule processes new_store words ≡ arrived v line (byte ∷ [])
-unfolding arrived
-typed-kept clearances lines turns schedule processes store new_store words v line byte is same becomes =
-    let stands = stands-typed store words (state_from clearances lines turns schedule processes store words) (kept-stands clearances lines turns schedule processes store words same) line byte (typed (byte ∷ [])) (typing-agrees byte) (λ ws. refl) in
-    ap (λ (s : Stored). state_from clearances lines turns schedule processes s words) becomes
-    ∙ (λ i. record {
-      fixed = record { levels = store.levels; subjects = clearances; lines = lines; turns = turns; schedule = schedule };
-      objects = stands.objects i;
-      access = store.access;
-      processes = processes;
-    })
-    ∙ ap (λ (x : State). arrived x line (byte ∷ [])) is
-
-typed-none : (c : Contents) → typed [] c ≡ c
-typed-none Children = refl
-typed-none (Words words) = refl
-typed-none (Messages waiting lost) = refl
-typed-none (Typed bytes) = refl
-
-typed-cons : (byte : ℕ) (bytes : List ℕ) (c : Contents) → typed bytes (typed (byte ∷ []) c) ≡ typed (byte ∷ bytes) c
-typed-cons byte bytes Children = refl
-typed-cons byte bytes (Words words) = refl
-typed-cons byte bytes (Messages waiting lost) = refl
-typed-cons byte bytes (Typed waiting) = refl
-
-taking-none : (line : ℕ) (o : Option Object) → option_map (taking line []) o ≡ o
-taking-none line None = refl
-taking-none line (Some o) = λ i. Some (record { facts = o.facts; contents = by (is_line line o.facts.kind) i })
-  where
-    by : (b : Bool) → (if b then typed [] o.contents else o.contents) ≡ o.contents
-    by true = typed-none o.contents
-    by false = refl
-
-taking-cons : (line byte : ℕ) (bytes : List ℕ) (o : Option Object) → option_map (taking line bytes) (option_map (taking line (byte ∷ [])) o) ≡ option_map (taking line (byte ∷ bytes)) o
-taking-cons line byte bytes None = refl
-taking-cons line byte bytes (Some o) = λ i. Some (record { facts = o.facts; contents = by (is_line line o.facts.kind) i })
-  where
-    by : (b : Bool) → (if b then typed bytes (if b then typed (byte ∷ []) o.contents else o.contents) else (if b then typed (byte ∷ []) o.contents else o.contents)) ≡ (if b then typed (byte ∷ bytes) o.contents else o.contents)
-    by true = typed-cons byte bytes o.contents
-    by false = refl
-
--- no byte arrives
-pub arrived-none : (v : State) (line : ℕ) → arrived v line [] ≡ v
-unfolding arrived
-arrived-none v line = ap (λ (m : finite.FinMap path_cmp Object). record v { objects = m })
-    (finite.same_map path_total path_apart _ _ (λ q. get-map_values path_cmp (taking line []) v.objects q ∙ taking-none line (finite.get v.objects q)))
-
--- the first byte arrives, and then the others
-pub arrived-cons : (v : State) (line byte : ℕ) (bytes : List ℕ) → arrived (arrived v line (byte ∷ [])) line bytes ≡ arrived v line (byte ∷ bytes)
-unfolding arrived
-arrived-cons v line byte bytes = ap (λ (m : finite.FinMap path_cmp Object). record v { objects = m })
-    (finite.same_map path_total path_apart _ _ (λ q.
-    get-map_values path_cmp (taking line bytes) (map_values (taking line (byte ∷ [])) v.objects) q
-    ∙ ap (option_map (taking line bytes)) (get-map_values path_cmp (taking line (byte ∷ [])) v.objects q)
-    ∙ taking-cons line byte bytes (finite.get v.objects q)
-    ∙ sym (get-map_values path_cmp (taking line (byte ∷ bytes)) v.objects q)))
 
 -- ---- the start
 

@@ -12,3 +12,4 @@ pub mod Takes
 pub mod Filled
 pub mod Loaded
 pub mod Kept
+pub mod Typing

@@ -1,4 +1,4 @@
-// The kernel: the lists, and the counts of what has been done.
+// The kernel: the state of the system, and the counts of what has been done.
 
 ghost use Rattle.std.specs.Prelude.{◌≡◌, OnOk, OnErr, All, option_to_list};
 ghost use Rattle.bk_base.specs.Written.{Took, Broke};

@@ -1,4 +1,4 @@
-use Rattle.bk_kernel.proofs.Kept.{typed-kept}
+use Rattle.bk_kernel.proofs.Typing.{typed-kept}
 use Rattle.bk_kernel.proofs.tables.Tables.type_byte.Goals as goal
 
 pub returns : goal.returns
