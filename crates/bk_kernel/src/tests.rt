@@ -1,166 +1,551 @@
-// Tests of what no clause says: a boot with ample memory, and the lines of whole runs that were worked out by hand.
+// Runs whose reports were worked out by hand from the tables of the processor, of the kernel calls and of the report.
 
-ghost use Rattle.std.specs.Prelude.{All, option_to_list};
-ghost use Rattle.bk_report.specs.Text.{IsAnswered};
-ghost use Rattle.bk_kernel.specs.Items.{items_of};
+mod fixture;
 
-use crate::{Kernel, Summary};
-use bk_image::read_image;
-use bk_report::{ReportItem, print};
+use bk_object::Kind;
+use bk_process::Status9;
+use bk_report::ReportItem;
+use bk_space::Mode;
+use fixture::{Object, Part, Subject, System, USER, Wanted, booted, check, run, segment, status};
 use std::alloc::Global;
+use std::process::Abort as Ends;
+use std::test::Fail;
 
-const ZEROS: [u8; 64] = [0; 64];
+/// Access modes.
+const R: u8 = 1;
 
-// Magic, version, turns of a slot; one level; the numbers of subjects, places, objects and holds; the level; the schedule.
-// Subject 0 sees `/0` in window 16 and `/1` in window 25, subject 1 sees `/2` in window 16, with R1 010400 and R3 000001.
-// Root; `/0` with the words 005737 020000 000775; `/1`; `/2` with the words 104007 104026. Who holds them.
-const RESCINDED: [&[u8]; 19] = [
-    b"BLPK\x01\x00\x02\x00\x01\x02\x00\x02\x04\x00\x04\x00",
-    b"\x00\x00\x00\x00\x00\x01",
-    b"\x00\x00\x03\x03",
-    &[0; 34],
-    b"\x02\x10\x00\x10\x00\x00\x19\x00\x11\x00\x00",
-    b"\x00\x00\x03\x03\x00\x00\x00\x11\x00\x00\x01\x00\x00\x00\x00\x00",
-    &[0; 22],
-    b"\x01\x10\x00\x12\x00\x00",
-    b"\x00\x00\x00\x00\x00\x00\x00\x00\x10\x00\x40",
-    &[0; 17],
-    b"\x00\x10\x00\x00\x01\x01\x00\x00\x00\x00\x02",
-    &[0; 15],
-    b"\x03\x00\xdf\x0b\x00\x20\xfd\x01",
-    b"\x00\x11\x00\x00\x01\x01\x00\x00\x00\x00\x01",
-    &[0; 17],
-    b"\x00\x12\x00\x00\x01\x01\x00\x00\x00\x00\x20",
-    &[0; 15],
-    b"\x02\x00\x07\x88\x16\x88",
-    b"\x00\x02\x00\x10\x00\x00\x00\x01\x00\x11\x00\x00\x01\x04\x00\x00\x00\x00\x01\x02\x00\x12\x00\x00",
+const E: u8 = 2;
+
+const W: u8 = 4;
+
+// One subject tests a word through a window until another rescinds its access.
+#[test]
+fn takes_a_window_away_with_its_access(rt: HostRuntime) -> Result<(), Fail> {
+    let system = System {
+        turns: 2,
+        schedule: &[0, 1],
+        subjects: &[
+            Subject {
+                windows: &[(16, 0), (25, 1)],
+                ..USER
+            },
+            Subject {
+                general: [0, 0o010400, 0, 1, 0, 0],
+                windows: &[(16, 2)],
+                ..USER
+            },
+        ],
+        root: &[(1, W)],
+        objects: &[
+            // TST @#020000, BR to 0
+            segment(1, &[(0, &[0o005737, 0o020000, 0o000775])], &[(0, E)]),
+            segment(1, &[], &[(0, R)]),
+            // rescind, stop
+            segment(1, &[(0, &[0o104007, 0o104026])], &[(1, E)]),
+        ],
+    };
+    let report = b"C 1 0 1 007 000000 010400 000000 000001 000000 000000 yes 0
+C 1 1 1 026 000000 000000 000000 000001 000000 000000 yes 0
+F 2 0 0 1 000000 stop
+";
+    let kernel = check(
+        &rt,
+        rt.alloc(),
+        &system,
+        &[&[], &[], &[]],
+        (report, 6, 9, 2),
+    )?;
+    assert_eq!(rt; status(&rt, &kernel, 0), Status9::Stopped(1));
+    assert_eq!(rt; status(&rt, &kernel, 1), Status9::Stopped(8));
+    Ok(())
+}
+
+// A subject deletes `/1`, creates it anew, grants itself w and gets it. The code at its fault entry, in supervisor mode,
+// passes over the reads that abort: it adds 4 to the program counter on its stack.
+#[test]
+fn reads_zeros_of_what_was_created_anew(rt: HostRuntime) -> Result<(), Fail> {
+    let mut entries = [0; 8];
+    entries[1] = 0o60;
+    let system = System {
+        turns: 20,
+        schedule: &[0],
+        subjects: &[Subject {
+            general: [0, 0, 0, 0, 0, 0o010400],
+            supervisor: 0o100,
+            entries,
+            windows: &[(0, 0), (8, 2), (16, 0), (25, 1)],
+            ..USER
+        }],
+        root: &[(0, W)],
+        objects: &[
+            segment(
+                1,
+                &[
+                    (
+                        0,
+                        &[
+                            0o013703, 0o020000, // MOV @#020000,R3
+                            0o010501, 0o104011, // delete group
+                            0o013703, 0o020000, // at 10
+                            0o010501, 0o012703, 0o000401, 0o104010, // create
+                            0o013703, 0o020000, // at 24
+                            0o010501, 0o012703, 0o000004, 0o104006, // give
+                            0o010501, 0o104004, // get-write
+                            0o013703, 0o020000, 0o104026,
+                        ],
+                    ),
+                    // ADD #4,(SP), RTI
+                    (0o60, &[0o062716, 0o000004, 0o000002]),
+                ],
+                &[(0, E)],
+            ),
+            segment(1, &[(0, &[0o000123])], &[(0, W)]),
+            segment(1, &[], &[(0, W)]),
+        ],
+    };
+    let report = b"C 0 2 0 011 000000 010400 000000 000123 000000 010400 yes 0
+F 0 3 0 1 000010 enter
+C 0 8 0 010 000000 010400 000000 000401 000000 010400 yes 0
+F 0 9 0 1 000024 enter
+C 0 14 0 006 000000 010400 000000 000004 000000 010400 yes 0
+C 0 16 0 004 000000 010400 000000 000004 000000 010400 yes 0
+C 0 18 0 026 000000 000000 000000 000000 000000 010400 yes 0
+";
+    check(&rt, rt.alloc(), &system, &[&[]], (report, 20, 43, 5))?;
+    Ok(())
+}
+
+// A subject whose program is in `/0`, which it holds by those modes, and whose window at 020000 of D space shows `/1`.
+fn refer<'a>(
+    rt: &impl Ends,
+    alloc: Global,
+    program: (&'a [u16], u8),
+    object: Object<'a>,
+    wanted: Wanted,
+) -> Result<(), Fail> {
+    let words = [(0, program.0)];
+    let holders = [(0, program.1)];
+    let system = System {
+        turns: 4,
+        schedule: &[0],
+        subjects: &[Subject {
+            windows: &[(16, 0), (25, 1)],
+            ..USER
+        }],
+        root: &[],
+        objects: &[segment(1, &words, &holders), object],
+    };
+    check(rt, alloc, &system, &[&[]], wanted)?;
+    Ok(())
+}
+
+#[test]
+fn refers_by_what_is_held_and_by_length(rt: HostRuntime) -> Result<(), Fail> {
+    let alloc = rt.alloc();
+    // MOV #123,@#037776, MOV @#037776,R3, call 27; then HALT
+    refer(
+        &rt,
+        alloc,
+        (
+            &[0o012737, 0o000123, 0o037776, 0o013703, 0o037776, 0o104027],
+            E,
+        ),
+        segment(128, &[], &[(0, W)]),
+        (
+            b"C 0 2 0 027 000000 000000 000000 000123 000000 000000 ? 20
+F 0 3 0 4 000014 stop
+",
+            4,
+            9,
+            1,
+        ),
+    )?;
+    // MOVB @#020077,R3, call 27, MOVB @#020100,R3
+    refer(
+        &rt,
+        alloc,
+        (&[0o113703, 0o020077, 0o104027, 0o113703, 0o020100], E),
+        segment(1, &[(0o76, &[0o040400])], &[(0, R)]),
+        (
+            b"C 0 1 0 027 000000 000000 000000 000101 000000 000000 ? 20
+F 0 2 0 2 000006 stop
+",
+            4,
+            7,
+            1,
+        ),
+    )?;
+    // One instruction of two words, what is held of `/1`, and the fault.
+    let rows: [(u16, u16, u8, u8); 9] = [
+        (0o010037, 0o020000, R, 3), // MOV R0,@#020000
+        (0o013703, 0o020001, R, 0), // MOV @#020001,R3
+        (0o013703, 0o020101, R, 0), // odd goes before the length
+        (0o013703, 0o040001, R, 0), // and before non-resident
+        (0o013703, 0o020000, E, 1), // e reads no data
+        (0o013703, 0o020100, E, 1), // non-resident goes before the length
+        (0o010037, 0o020100, R, 2), // the length goes before read-only
+        (0o013703, 0o040000, W, 1), // a free window
+        (0o010037, 0o020100, W, 2),
+    ];
+    for (word, address, held, fault) in rows {
+        let mut report = *b"F 0 0 0 0 000000 stop\n";
+        report[8] = b'0' + fault;
+        refer(
+            &rt,
+            alloc,
+            (&[word, address], E),
+            segment(1, &[], &[(0, held)]),
+            (&report, 4, 3, 0),
+        )?;
+    }
+    // Neither r nor w lets instructions be read.
+    for held in [R, W] {
+        refer(
+            &rt,
+            alloc,
+            (&[0o000240], held),
+            segment(1, &[], &[]),
+            (b"F 0 0 0 1 000000 stop\n", 4, 1, 0),
+        )?;
+    }
+    Ok(())
+}
+
+// RTI that pops PC 000100 and a status of zeros, and there MFPI (R0): the modes stay user, and the word is the one at 0 of
+// the process's own I space. The code at the entry of TRAP shows the status that was pushed.
+#[test]
+fn keeps_its_modes_in_a_return(rt: HostRuntime) -> Result<(), Fail> {
+    let mut entries = [0; 8];
+    entries[7] = 0o120;
+    let system = System {
+        turns: 7,
+        schedule: &[0],
+        subjects: &[Subject {
+            user: 0o020000,
+            supervisor: 0o100,
+            entries,
+            windows: &[(0, 0), (8, 2), (16, 0), (25, 1)],
+            ..USER
+        }],
+        root: &[],
+        objects: &[
+            segment(
+                2,
+                &[
+                    (0, &[0o000002]),
+                    // MFPI (R0), MOV SP,R4, MOV (SP),R3, TRAP
+                    (0o100, &[0o006510, 0o010604, 0o011603, 0o104400]),
+                    // MOV 2(SP),R2, call 27
+                    (0o120, &[0o016602, 0o000002, 0o104027]),
+                ],
+                &[(0, E)],
+            ),
+            segment(1, &[(0, &[0o000100])], &[(0, W)]),
+            segment(1, &[], &[(0, W)]),
+        ],
+    };
+    let report = b"F 0 4 0 7 000110 enter
+C 0 6 0 027 000000 000000 174000 000002 020002 000000 ? 20
+";
+    check(&rt, rt.alloc(), &system, &[&[]], (report, 7, 16, 1))?;
+    Ok(())
+}
+
+/// A fault of a subject: its mode, its program counter, the entry of fault 4, the modes by which it holds its supervisor
+/// stack, and what its run is to give.
+type Faulting<'a> = (Mode, u16, u16, u8, Wanted<'a>);
+
+// SCC at 76 and HALT at 100. The code at 200 of supervisor I space shows that N and C are clear (SXT R1, ADC R0), its stack
+// pointer, the two words on its stack, and the stack pointer of the previous mode (MFPI SP).
+#[test]
+fn reflects_a_fault(rt: HostRuntime) -> Result<(), Fail> {
+    let entered = b"F 0 0 0 4 000100 enter
+C 0 8 0 027 000000 000000 001234 000100 174000 000374 ? 20
+F 0 9 0 4 000222 stop
+";
+    let after_flags = b"F 0 1 0 4 000100 enter
+C 0 9 0 027 000000 000000 001234 000100 174017 000374 ? 20
+";
+    let stopped = b"F 0 0 0 4 000100 stop\n";
+    let rows: [Faulting; 6] = [
+        (Mode::User, 0o100, 0o200, W, (entered, 10, 17, 1)),
+        (Mode::User, 0o76, 0o200, W, (after_flags, 10, 17, 1)),
+        (Mode::User, 0o100, 0o200, R, (stopped, 10, 1, 0)),
+        (Mode::User, 0o100, 0o200, E, (stopped, 10, 1, 0)),
+        (Mode::User, 0o100, 0, W, (stopped, 10, 1, 0)),
+        (Mode::Supervisor, 0o100, 0o200, W, (stopped, 10, 1, 0)),
+    ];
+    for (mode, pc, entry, held, wanted) in rows {
+        let mut entries = [0o200; 8];
+        entries[4] = entry;
+        let holders = [(0, held)];
+        let system = System {
+            turns: 10,
+            schedule: &[0],
+            subjects: &[Subject {
+                mode,
+                user: 0o1234,
+                supervisor: 0o400,
+                pc,
+                entries,
+                windows: &[(0, 1), (8, 2), (16, 0)],
+                ..USER
+            }],
+            root: &[],
+            objects: &[
+                segment(2, &[(0o76, &[0o000277])], &[(0, E)]),
+                segment(
+                    3,
+                    &[(
+                        0o200,
+                        &[
+                            0o006701, 0o005500, 0o010605, 0o011603, 0o016604, 0o000002, 0o006506,
+                            0o012602, 0o104027,
+                        ],
+                    )],
+                    &[(0, E)],
+                ),
+                segment(4, &[], &holders),
+            ],
+        };
+        check(&rt, rt.alloc(), &system, &[&[]], wanted)?;
+    }
+    Ok(())
+}
+
+// TRAP by a subject whose two words below the supervisor stack pointer lie on two pages: the lower at 17776 of `/2`, the
+// upper at 0 of `/3`. Another subject then shows both words. Where either can't be written, neither is.
+#[test]
+fn tests_both_words_before_either_is_written(rt: HostRuntime) -> Result<(), Fail> {
+    // The stack pointer, by which modes `/2` and `/3` are held, and whether the fault is reflected.
+    let rows: [(u16, u8, u8, bool); 7] = [
+        (0o060002, W, W, true),
+        (0o060002, R, W, false),
+        (0o060002, W, R, false),
+        (0o060003, W, W, false),
+        (2, W, W, true), // around the end of the space
+        (2, R, W, false),
+        (2, W, R, false),
+    ];
+    for (pointer, lower, upper, taken) in rows {
+        let mut entries = [0; 8];
+        entries[7] = 0o40;
+        let lower = [(0, lower), (1, R)];
+        let upper = [(0, upper), (1, R)];
+        let system = System {
+            turns: 3,
+            schedule: &[0, 1],
+            subjects: &[
+                Subject {
+                    supervisor: pointer,
+                    entries,
+                    windows: &[(0, 1), (8, 3), (10, 2), (11, 3), (15, 2), (16, 0)],
+                    ..USER
+                },
+                Subject {
+                    windows: &[(16, 4), (24, 2), (25, 3)],
+                    ..USER
+                },
+            ],
+            root: &[],
+            objects: &[
+                segment(1, &[(0, &[0o104400])], &[(0, E)]),
+                // BR to itself
+                segment(1, &[(0o40, &[0o000777])], &[(0, E)]),
+                segment(128, &[], &lower),
+                segment(1, &[], &upper),
+                // MOV @#017776,R3, MOV @#020000,R4, call 27
+                segment(
+                    1,
+                    &[(0, &[0o013703, 0o017776, 0o013704, 0o020000, 0o104027])],
+                    &[(1, E)],
+                ),
+            ],
+        };
+        let wanted: Wanted = if taken {
+            (
+                b"F 0 0 0 7 000002 enter
+C 1 2 1 027 000000 000000 000000 000002 174000 000000 ? 20
+",
+                6,
+                12,
+                1,
+            )
+        } else {
+            (
+                b"F 0 0 0 7 000002 stop
+C 1 2 1 027 000000 000000 000000 000000 000000 000000 ? 20
+",
+                6,
+                8,
+                1,
+            )
+        };
+        check(&rt, rt.alloc(), &system, &[&[], &[]], wanted)?;
+    }
+    Ok(())
+}
+
+// Instructions that end in a fault by themselves, and the trace bit as RTI and RTT set it: both pop PC 000100 and T.
+#[test]
+fn stops_at_traps_and_traces(rt: HostRuntime) -> Result<(), Fail> {
+    let rows: [(u16, Wanted); 6] = [
+        (0o000000, (b"F 0 0 0 4 000000 stop\n", 4, 1, 0)),
+        (0o000003, (b"F 0 0 0 5 000002 stop\n", 4, 1, 0)),
+        (0o000004, (b"F 0 0 0 6 000002 stop\n", 4, 1, 0)),
+        (0o104400, (b"F 0 0 0 7 000002 stop\n", 4, 1, 0)),
+        (0o000002, (b"F 0 0 0 5 000100 stop\n", 4, 3, 0)),
+        // The call goes by, and WAIT is the first that faults.
+        (
+            0o000006,
+            (
+                b"C 0 1 0 027 000000 000000 000000 000000 000000 000000 ? 20
+F 0 2 0 5 000104 stop
+",
+                4,
+                5,
+                1,
+            ),
+        ),
+    ];
+    for (word, wanted) in rows {
+        let first = [word];
+        let words: [Part; 2] = [(0, &first), (0o100, &[0o104027, 0o000001])];
+        let system = System {
+            turns: 4,
+            schedule: &[0],
+            subjects: &[Subject {
+                user: 0o020000,
+                windows: &[(16, 0), (25, 1)],
+                ..USER
+            }],
+            root: &[],
+            objects: &[
+                segment(2, &words, &[(0, E)]),
+                segment(1, &[(0, &[0o000100, 0o000020])], &[(0, R)]),
+            ],
+        };
+        check(&rt, rt.alloc(), &system, &[&[]], wanted)?;
+    }
+    Ok(())
+}
+
+// Takes a typed byte and sends it out, then pauses, over and over.
+const ECHO: [u16; 8] = [
+    0o010501, 0o104020, 0o010203, 0o005002, 0o010501, 0o104017, 0o104024, 0o000770,
 ];
 
-// One subject in user mode, with PC 000100, supervisor stack pointer 000400 and the entry 000200 for fault 4. Windows 0 and
-// 16 show `/0`, window 8 shows `/1`. The word 000010 of `/0` at 000100 is reserved; at 000200 the words at 000374 and 000376
-// are read into R0 and R1, and the process pauses. What the row of `/1` grants, and how it is held, comes in between.
-const HEAD: [&[u8]; 15] = [
-    b"BLPK\x01\x00\x04\x00\x01\x01\x00\x01\x03\x00\x02\x00",
-    b"\x00\x00\x00\x00\x00",
-    b"\x00\x00\x03\x03",
-    &[0; 14],
-    b"\x00\x01\x40\x00",
-    &[0; 8],
-    b"\x80\x00\x00\x00\x00\x00\x00\x00",
-    b"\x03\x00\x00\x10\x00\x00\x08\x00\x11\x00\x00\x10\x00\x10\x00\x00",
-    b"\x00\x00\x00\x00\x00\x00\x00\x00\x10\x00",
-    &[0; 18],
-    b"\x00\x10\x00\x00\x01\x03\x00\x00\x00\x00\x02",
-    &[0; 15],
-    b"\x45\x00",
-    &[0; 64],
-    b"\x08\x00",
-];
+// Takes typed bytes, each of which the next call shows in R3.
+const TAKE: [u16; 5] = [0o010501, 0o104020, 0o010203, 0o005002, 0o000773];
 
-const CODE: &[u8] = b"\xc0\x17\xfc\x00\xc1\x17\xfe\x00\x14\x88";
-
-fn joined(alloc: Global, parts: &[&[u8]]) -> Option<Vec<u8>> {
-    let mut all = Vec::new(alloc);
-    for part in parts {
-        all.extend_from_slice(part).ok()?;
-    }
-    Some(all)
+// A program, and below it in the order of paths the line `/1`, which the subject holds.
+fn with_a_line<'a>(program: &'a [Part<'a>]) -> [Object<'a>; 2] {
+    [
+        segment(1, program, &[(0, E)]),
+        Object {
+            kind: Kind::Line(0),
+            blocks: 0,
+            words: &[],
+            held: &[(0, W)],
+        },
+    ]
 }
 
-// The second image, in which the only subject holds `/1` by these modes.
-fn with_stack(alloc: Global, modes: u8) -> Option<Vec<u8>> {
-    let mut all = joined(alloc, &HEAD)?;
-    all.extend_from_slice(&ZEROS[..62]).ok()?;
-    all.extend_from_slice(CODE).ok()?;
-    all.extend_from_slice(b"\x00\x11\x00\x00\x01\x04\x00\x00\x00\x00")
-        .ok()?;
-    all.push(modes).ok()?;
-    all.extend_from_slice(&ZEROS[..17]).ok()?;
-    all.extend_from_slice(b"\x00\x02\x00\x10\x00\x00\x00").ok()?;
-    all.push(modes).ok()?;
-    all.extend_from_slice(b"\x00\x11\x00\x00").ok()?;
-    Some(all)
-}
-
-fn add(text: &mut Vec<u8>, item: &Option<ReportItem>) -> Option<()>
-    requires { All IsAnswered (option_to_list item.now) }
-{
-    if let Some(item) = item {
-        text.extend_from_slice(print(item).as_slice()).ok()?;
-    }
-    Some(())
-}
-
-fn add_both(text: &mut Vec<u8>, items: &(Option<ReportItem>, Option<ReportItem>)) -> Option<()>
-    requires { All IsAnswered (items_of items.now) }
-{
-    add(text, &items.0)?;
-    add(text, &items.1)
-}
-
-// The lines of a run from an image, with a slot of so many turns for each subject of the schedule, and its totals.
-fn run(alloc: Global, image: &[u8], schedule: &[u8], turns: u8) -> Option<(Vec<u8>, Summary)> {
-    let (image, _) = read_image(alloc, image).ok()?;
-    let mut kernel = Kernel::boot(alloc, &image).ok()?;
-    let mut text = Vec::new(alloc);
-    for subject in schedule {
-        for _ in 0..turns {
-            let items = kernel.turn(*subject);
-            add_both(&mut text, &items)?;
-        }
-        kernel.end_slot();
-    }
-    Some((text, kernel.summary()))
-}
-
-// What another subject rescinds is gone with the next reference.
+// Two bytes are typed before the first slot. A byte goes out right after its call, and a pause lasts until its slot ends.
 #[test]
-fn rescinds_what_a_window_shows(rt: HostRuntime) {
-    let image = joined(rt.alloc(), &RESCINDED).expect(&rt, "memory");
-    let (text, totals) = run(rt.alloc(), image.as_slice(), &[0, 1, 0], 2).expect(&rt, "a run");
-    assert_eq!(rt;
-        text.as_slice(),
-        b"C 1 0 1 007 000000 010400 000000 000001 000000 000000 yes 0\nC 1 1 1 026 000000 000000 000000 000001 000000 000000 yes 0\nF 2 0 0 1 000000 stop\n".as_slice()
-    );
-    assert_eq!(rt;
-        totals,
-        Summary {
-            slots: 3,
-            turns: 6,
-            references: 9,
-            calls: 2
-        }
-    );
+fn pauses_until_its_slot_ends(rt: HostRuntime) -> Result<(), Fail> {
+    let objects = with_a_line(&[(0, &ECHO)]);
+    let system = System {
+        turns: 10,
+        schedule: &[0],
+        subjects: &[Subject {
+            general: [0, 0, 0, 0, 0, 0o010400],
+            ..USER
+        }],
+        root: &[(0, R)],
+        objects: &objects,
+    };
+    let report = b"C 0 1 0 020 000000 010400 000000 000000 000000 010400 yes 0
+C 0 5 0 017 000000 010400 000000 000150 000000 010400 yes 0
+L 0 5 0 150
+C 0 6 0 024 000000 000000 000000 000150 000000 010400 yes 0
+C 1 2 0 020 000000 010400 000000 000150 000000 010400 yes 0
+C 1 6 0 017 000000 010400 000000 000151 000000 010400 yes 0
+L 1 6 0 151
+C 1 7 0 024 000000 000000 000000 000151 000000 010400 yes 0
+";
+    let typed: [(u8, &[u8]); 1] = [(0, b"hi")];
+    check(
+        &rt,
+        rt.alloc(),
+        &system,
+        &[&typed, &[]],
+        (report, 20, 15, 6),
+    )?;
+    Ok(())
 }
 
-// A fault is taken at its entry where its two words can be written, the old status above the old program counter.
+// The same by turns, with nothing typed: its own turns in the slot are idle after the pause.
 #[test]
-fn takes_a_fault_where_the_stack_can_be_written(rt: HostRuntime) {
-    let image = with_stack(rt.alloc(), 4).expect(&rt, "memory");
-    let (text, totals) = run(rt.alloc(), image.as_slice(), &[0], 4).expect(&rt, "a run");
+fn is_paused_until_its_slot_ends(rt: HostRuntime) -> Result<(), Fail> {
+    let objects = with_a_line(&[(0, &ECHO)]);
+    let system = System {
+        turns: 10,
+        schedule: &[0],
+        subjects: &[Subject {
+            general: [0, 0, 0, 0, 0, 0o010400],
+            ..USER
+        }],
+        root: &[(0, R)],
+        objects: &objects,
+    };
+    let mut kernel = booted(&rt, rt.alloc(), &system)?;
+    for _ in 0..6 {
+        kernel.turn(0);
+    }
+    assert_eq!(rt; status(&rt, &kernel, 0), Status9::Running);
+    let pause = ReportItem::Call {
+        slot: 0,
+        turn: 6,
+        subject: 0,
+        number: 0o24,
+        regs: [0, 0, 0, 0, 0, 0o010400],
+        answer: 0,
+        cause: 0,
+    };
+    assert_eq!(rt; kernel.turn(0), (Some(pause), None));
+    assert_eq!(rt; status(&rt, &kernel, 0), Status9::Paused);
+    assert_eq!(rt; kernel.turn(0), (None, None));
+    kernel.end_slot();
+    assert_eq!(rt; status(&rt, &kernel, 0), Status9::Running);
+    Ok(())
+}
+
+// 65 bytes are typed, 1 to 64 and another, which is lost: the call after the 64th finds that byte in R3, and no more.
+#[test]
+fn loses_a_byte_for_a_full_line(rt: HostRuntime) -> Result<(), Fail> {
+    let objects = with_a_line(&[(0, &TAKE)]);
+    let system = System {
+        turns: 322,
+        schedule: &[0],
+        subjects: &[Subject {
+            general: [0, 0, 0, 0, 0, 0o010400],
+            ..USER
+        }],
+        root: &[(0, R)],
+        objects: &objects,
+    };
+    let mut bytes = [0o377; 65];
+    for n in 0..64u8 {
+        bytes[usize::from(n)] = n + 1;
+    }
+    let (kernel, out) = run(&rt, rt.alloc(), &system, &[&[(0, &bytes), (0, b"x")]])?;
+    let last = b"\nC 0 321 0 020 000000 010400 000000 000100 000000 010400 no 9\n";
+    assert!(rt; out.taken().ends_with(last));
+    let totals = kernel.summary();
     assert_eq!(rt;
-        text.as_slice(),
-        b"F 0 0 0 4 000100 enter\nC 0 3 0 024 000100 174000 000000 000000 000000 000000 yes 0\n".as_slice()
+        (totals.turns, totals.references, totals.calls),
+        (322, 322, 65)
     );
-    assert_eq!(rt;
-        totals,
-        Summary {
-            slots: 1,
-            turns: 4,
-            references: 10,
-            calls: 1
-        }
-    );
-    let image = with_stack(rt.alloc(), 1).expect(&rt, "memory");
-    let (text, totals) = run(rt.alloc(), image.as_slice(), &[0], 4).expect(&rt, "a run");
-    assert_eq!(rt; text.as_slice(), b"F 0 0 0 4 000100 stop\n".as_slice());
-    assert_eq!(rt;
-        totals,
-        Summary {
-            slots: 1,
-            turns: 4,
-            references: 1,
-            calls: 0
-        }
-    );
+    Ok(())
 }
