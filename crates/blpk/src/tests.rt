@@ -162,6 +162,69 @@ fn echoes_what_is_typed(rt: HostRuntime) -> Result<(), Fail> {
     Ok(())
 }
 
+/// An image of one level and two turns a slot, by its parts: subject 0 reads `/1` in a loop, and subject 1 deletes `/1` and
+/// stops.
+const READER_AND_DELETER: [&[u8]; 16] = [
+    // Header: 1 level, 2 subjects, no line, 2 places of the schedule, 4 objects, 4 holds. The level, the schedule.
+    b"BLPK",
+    &[1, 0, 2, 0, 1, 2, 0, 2, 4, 0, 4, 0],
+    &[0, 0, 0, 0],
+    &[0, 1],
+    // Subject 0: user and user, all registers 0, window 16 to `/0` and window 25 to `/1`.
+    &[0, 0, 3, 3],
+    &[0; 34],
+    &[2, 16, 0, 16, 0, 0, 25, 0, 17, 0, 0],
+    // Subject 1: the same, with R1 010400 and R3 000001; window 16 to `/2`.
+    &[0, 0, 3, 3, 0, 0, 0, 17, 0, 0, 1, 0],
+    &[0; 26],
+    &[1, 16, 0, 18, 0, 0],
+    // Root with a limit of 16, and w in its row for subject 1.
+    &[
+        0, 0, 0, 0, 0, 0, 0, 0, 16, 0, 64, 0, 0, 0, 0, 0, 0, 0, 0, 0, 0, 0, 0, 0, 0, 0, 0, 0,
+    ],
+    // `/0`: words 005737 020000 000775, and e for subject 0.
+    &[
+        0, 16, 0, 0, 1, 1, 0, 0, 0, 0, 2, 0, 0, 0, 0, 0, 0, 0, 0, 0, 0, 0, 0, 0, 0, 0, 3, 0, 0xdf,
+        0x0b, 0x00, 0x20, 0xfd, 0x01,
+    ],
+    // `/1`: no words, and r for subject 0.
+    &[
+        0, 17, 0, 0, 1, 1, 0, 0, 0, 0, 1, 0, 0, 0, 0, 0, 0, 0, 0, 0, 0, 0, 0, 0, 0, 0, 0, 0,
+    ],
+    // `/2`: words 104007 104026, and e for subject 1.
+    &[
+        0, 18, 0, 0, 1, 1, 0, 0, 0, 0, 32, 0, 0, 0, 0, 0, 0, 0, 0, 0, 0, 0, 0, 0, 0, 0, 2, 0, 0x07,
+        0x88, 0x16, 0x88,
+    ],
+    // What is held: e on `/0` and r on `/1` by subject 0, w on root and e on `/2` by subject 1.
+    &[0, 2, 0, 16, 0, 0, 0, 1, 0, 17, 0, 0],
+    &[1, 4, 0, 0, 0, 0, 1, 2, 0, 18, 0, 0],
+];
+
+#[test]
+fn stops_a_reader_whose_segment_is_deleted(rt: HostRuntime) -> Result<(), Fail> {
+    let mut input = Vec::new(rt.alloc());
+    for part in READER_AND_DELETER {
+        input.extend_from_slice(part)?;
+    }
+    input.extend_from_slice(b"END 3\n")?;
+    let report = b"C 1 0 1 007 000000 010400 000000 000001 000000 000000 yes 0
+C 1 1 1 026 000000 000000 000000 000001 000000 000000 yes 0
+F 2 0 0 1 000000 stop
+END 3 6 9 2
+";
+    assert!(rt;
+        gives(
+            rt.alloc(),
+            &["run"],
+            &input,
+            AMPLE,
+            (Status::Ok, report, b"")
+        )?
+    );
+    Ok(())
+}
+
 #[test]
 fn answers_no_where_nothing_is_typed(rt: HostRuntime) -> Result<(), Fail> {
     let input = sample(rt.alloc(), b"0 0 6869\nEND 2\n")?;
