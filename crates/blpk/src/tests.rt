@@ -3,6 +3,7 @@
 use crate::status::Status;
 use crate::top::run_blpk;
 use bk_base::{MemSink, MemSource};
+use bk_report::line_records;
 use std::alloc::{AllocError, Global};
 use std::test::Fail;
 
@@ -249,6 +250,14 @@ END 2 64 38 8
             (Status::Ok, &report, b"")
         )?
     );
+    // The records of line 0 are those of the run in which bytes are typed on line 1 too.
+    for text in [report.as_slice(), REPORT] {
+        let records = line_records(rt.alloc(), text, 0b01).ok().ok_or("memory")?;
+        assert_eq!(rt;
+            records.as_slice(),
+            b"L 0 8 0 150\nL 0 18 0 151\n".as_slice()
+        );
+    }
     Ok(())
 }
 
