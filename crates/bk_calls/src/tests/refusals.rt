@@ -157,3 +157,30 @@ fn refuses_by_the_first_cause(rt: HostRuntime) {
         check(&rt, &mut system, &[number, 0, 0, 0, 0], Unknown(20));
     }
 }
+
+// A new object below an upgraded directory, and calls on root, each with two causes at once, of which the earlier is told.
+#[test]
+fn refuses_a_creation_by_the_earlier_of_two_causes(rt: HostRuntime) {
+    let mut system = begun(rt.alloc()).expect(&rt, "memory");
+    // The directory 0 of level 1 with a quota of 4, of which the first subject is granted r and w and holds r.
+    check(&rt, &mut system, &[0o10, 0o010000, 0, 1, 4], Yes);
+    check(&rt, &mut system, &[0o6, 0o010000, 5, 0, 0], Yes);
+    switch(&mut system, 0, 1, 1);
+    check(&rt, &mut system, &[0o1, 0o010000, 0, 0, 0], Yes);
+    // Without w, of a level that falls.
+    check(&rt, &mut system, &[0o10, 0o020000, 0o401, 0, 0], No(4));
+    check(&rt, &mut system, &[0o4, 0o010000, 0, 0, 0], Yes);
+    check(&rt, &mut system, &[0o10, 0o020000, 0o401, 1, 0], Yes);
+    // Of a level that falls, at a path that is taken.
+    check(&rt, &mut system, &[0o10, 0o020000, 0o401, 0, 0], No(5));
+    // The second subject holds r alone on root.
+    switch(&mut system, 1, 1, 1);
+    for row in [
+        [0o6, 0, 1, 0, 0],
+        [0o7, 0, 1, 0, 0],
+        [0o10, 0, 0, 0, 5],
+        [0o11, 0, 0, 0, 0],
+    ] {
+        check(&rt, &mut system, &row, No(11));
+    }
+}
