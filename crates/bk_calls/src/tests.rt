@@ -106,6 +106,7 @@ fn loses_the_seventeenth_message(rt: HostRuntime) {
 fn creates_while_the_quota_lasts(rt: HostRuntime) {
     let mut system = begun(rt.alloc()).expect(&rt, "memory");
     let rows = [
+        (0, 0o11, [0, CHILD_2, 0, 0, 0, 0], Yes), // root is alone
         (0, 0o10, [0, CHILD_1, 0, 0, 1, 5], Yes),
         (0, 0o23, [0, ROOT, 0, 0, 0, 0], Yes),
         (0, 0o6, [0, CHILD_1, 0, 5, 1, 0], Yes),
@@ -134,11 +135,11 @@ fn creates_while_the_quota_lasts(rt: HostRuntime) {
             "call {number}"
         );
         if number == 0o23 {
-            assert_eq!(rt; system.process.registers.general, [0, 0, 16, 7, 0, 0]);
+            assert_eq!(rt; system.process.registers.general, [0, 0, 16, 6, 0, 0]);
         }
     }
     assert_eq!(rt; ask(&mut system, 0o23, [0, ROOT, 0, 0, 0, 0]), Some(Yes));
-    assert_eq!(rt; system.process.registers.general, [0, 0, 16, 2, 0, 0]); // with the line's 1
+    assert_eq!(rt; system.process.registers.general, [0, 0, 16, 1, 0, 0]);
 }
 
 // A segment that is deleted and created anew is held by nobody.
