@@ -1,9 +1,9 @@
 -- The map from subject and slot to modes: what its changes answer at each key.
-use Rattle.std.proofs.Common.{◌≡◌, ℕ, Bool, true, false, cond, ◌&&◌, ◌||◌, refl, sym, ap, ◌∙◌, ◌==◌, Ordering, Less, Equal, Greater, is_eq, Option, None, Some, arith}
+use Rattle.std.proofs.Common.{◌≡◌, ℕ, Bool, true, false, cond, ◌&&◌, ◌||◌, refl, sym, ap, ◌∙◌, ◌==◌, Ordering, Less, Equal, Greater, Option, None, Some, arith}
 use Rattle.std.specs.Prelude.{if◌then◌else◌, not}
 use Rattle.std.specs.Option.{unwrap_or}
 use Rattle.std.specs.Ordering.{eq_by_cmp, nat_cmp, ordering_then}
-use Rattle.std.specs.Cmp.{IsTotalOrder, nat_cmp_total, on_total, then_total, unsigned_tied}
+use Rattle.std.specs.Cmp.{IsTotalOrder, nat_cmp_total, on_total, then_total, tied_then, unsigned_tied}
 use Rattle.std.specs.FinMap as map
 use Rattle.std.specs.FinMap.{IsAntisymmetric, nat_cmp-IsAntisymmetric}
 use Rattle.std.proofs.lemmas.Bool.Decides.{nat_tests}
@@ -15,14 +15,9 @@ use Rattle.bk_access.specs.Held.{key_cmp, Held, modes_at, holds, nothing_held, w
 pub key_total : IsTotalOrder key_cmp
 key_total = then_total (on_total (λ key. key.0) nat_cmp_total) (on_total (λ key. key.1) nat_cmp_total)
 
-eq_then : (a b : Ordering) → is_eq (ordering_then a b) ≡ (is_eq a && is_eq b)
-eq_then Less b = refl
-eq_then Equal b = refl
-eq_then Greater b = refl
-
 -- when two keys tie
 pub tie : (s k t l : ℕ) → eq_by_cmp key_cmp (s, k) (t, l) ≡ ((s == t) && (k == l))
-tie s k t l = eq_then (nat_cmp s t) (nat_cmp k l) ∙ (λ i. unsigned_tied s t i && unsigned_tied k l i)
+tie s k t l = sym (tied_then (nat_cmp s t) (nat_cmp k l)) ∙ (λ i. unsigned_tied s t i && unsigned_tied k l i)
 
 tied_both : (a b : Ordering) → ordering_then a b ≡ Equal → (a ≡ Equal) × (b ≡ Equal)
 tied_both Less b e = cc

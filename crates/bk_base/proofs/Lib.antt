@@ -1,2 +1,5 @@
 pub mod NextBytes
 pub mod Written
+pub mod Totals
+pub mod Distinct
+pub mod MapValues

@@ -1,7 +1,9 @@
-//! The outside: where bytes come from and go to, by counts of faults, and lists of bytes and words.
+//! The outside: where bytes come from and go to, by counts of faults; lists of bytes and words; and, for the crates above,
+//! finite maps with each value changed and the sums over a map's entries.
 //!
-//! Model: `specs/Outside.antt` (`Rose`, `Reads`, `Writes`), `specs/Written.antt` (`Took`, `Broke`) and
-//! `specs/Memory.antt` (`MemInput`, `MemOutput`).
+//! Model: `specs/Outside.antt` (`Rose`, `Reads`, `Writes`), `specs/Written.antt` (`Took`, `Broke`),
+//! `specs/Memory.antt` (`MemInput`, `MemOutput`) and `specs/Maps.antt` (`map_values`, `IsDistinct`), on which `proofs/` has lemmas
+//! (`Totals`, `Distinct`, `MapValues`).
 //! Calls: `Source::read`, `Sink::write`, `read_all`, `write_all`; the constructors of the sources and
 //! sinks, `Buf`, `Bytes`, `Words`.
 //! Proved: a read gives the next bytes and a write takes the first ones, a refusal comes only where the

@@ -5,35 +5,29 @@ use Rattle.std.specs.FinMap as finite
 use Rattle.bk_path.specs.Paths.{Path}
 use Rattle.bk_object.specs.declared.Facts.{Facts}
 use Rattle.bk_quota.specs.Charges.{passes}
-use Rattle.bk_state.specs.State.{Object, Contents, Children, Words, Messages, Typed, facts_at, find}
-use Rattle.bk_state.specs.Answers.{deposited, with_contents}
+use Rattle.bk_state.specs.State.{Object, facts_at, find}
+use Rattle.bk_state.specs.Answers.{with_contents, with_word}
 use Rattle.bk_state.specs.Changes.{changed_at, changed_by}
-use Rattle.bk_store.specs.Stored.{Stored, facts_in, objects_of, with_word, written, written_by}
+use Rattle.bk_store.specs.Stored.{Stored, facts_in, objects_of, written, written_by}
 use Rattle.bk_calls.specs.declared.caller.Caller.{Caller}
 use Rattle.bk_calls.specs.Made.{seen_by}
 use Rattle.bk_calls.proofs.Seen.{facts-seen}
 use Rattle.bk_calls.proofs.Served.{Moved, changed-access}
 
-same-word : (place word : ℕ) (contents : Contents) → with_word place word contents ≡ deposited place word contents
-same-word place word Children = refl
-same-word place word (Words words) = refl
-same-word place word (Messages waiting lost) = refl
-same-word place word (Typed bytes) = refl
-
 module _ (caller : Caller) (store : Stored) (words : List ℕ) where
-  written-object : (path : Path) (place word : ℕ) → written path place word (objects_of store words) ≡ (changed_at (seen_by caller store words) path (with_contents (deposited place word))).objects
+  written-object : (path : Path) (place word : ℕ) → written path place word (objects_of store words) ≡ (changed_at (seen_by caller store words) path (with_contents (with_word place word))).objects
   written-object path place word = by (find (seen_by caller store words) path)
     where
-      by : (o : Option Object) → written_by (objects_of store words) path place word o ≡ (changed_by (seen_by caller store words) path (with_contents (deposited place word)) o).objects
+      by : (o : Option Object) → written_by (objects_of store words) path place word o ≡ (changed_by (seen_by caller store words) path (with_contents (with_word place word)) o).objects
       by None = refl
-      by (Some o) = ap (λ contents. finite.insert (objects_of store words) path (record { facts = o.facts; contents = contents })) (same-word place word o.contents)
+      by (Some o) = refl
 
   -- the word written is that of the state
   pub deposit-moved : (words_after : List ℕ) (asked path : Path) → asked ≡ path → (place word : ℕ) → objects_of store words_after ≡ written path place word (objects_of store words) →
-      Moved store store words words_after (changed_at (seen_by caller store words) asked (with_contents (deposited place word)))
+      Moved store store words words_after (changed_at (seen_by caller store words) asked (with_contents (with_word place word)))
   deposit-moved words_after asked path same place word is = record {
-    objects = is ∙ written-object path place word ∙ ap (λ p. (changed_at (seen_by caller store words) p (with_contents (deposited place word))).objects) (sym same);
-    access = sym (changed-access caller store words asked (with_contents (deposited place word)));
+    objects = is ∙ written-object path place word ∙ ap (λ p. (changed_at (seen_by caller store words) p (with_contents (with_word place word))).objects) (sym same);
+    access = sym (changed-access caller store words asked (with_contents (with_word place word)));
     levels = refl;
     lines = refl;
   }

@@ -2,20 +2,22 @@
 use Rattle.std.proofs.Common.{◌≡◌, ℕ, Bool, true, false, List, [], ◌∷◌, ◌++◌, length, Option, Some, None, refl, sym, ap, subst, ◌∙◌}
 use Rattle.std.specs.Prelude.{nat_lt, option_map, slice_index, if◌then◌else◌}
 use Rattle.std.specs.FinMap as finite
+use Rattle.std.proofs.lemmas.Option.{same_Some}
 use Rattle.bk_path.specs.Paths.{Path}
 use Rattle.bk_frames.specs.Extents.{Extent}
 use Rattle.bk_object.specs.declared.Facts.{Facts}
 use Rattle.bk_object.specs.declared.kind.Kind.{Kind}
 use Rattle.bk_object.specs.declared.kind.Kind.TheVariants.{Directory, Segment, Mailbox, Line}
+use Rattle.bk_object.specs.Kinds.{is_mailbox}
+use Rattle.bk_object.proofs.KindLemmas.{mailbox_kind}
 use Rattle.bk_queue.specs.declared.mailbox.Message.{Message}
 use Rattle.bk_queue.specs.Queues.{counted_on}
 use Rattle.bk_quota.specs.Charges.{passes}
 use Rattle.bk_state.specs.State.{Object, Messages, find}
-use Rattle.bk_state.specs.Calls.{has_message, is_mailbox}
+use Rattle.bk_state.specs.Calls.{has_message}
 use Rattle.bk_state.specs.Answers.{message_values, of_contents, put, without_message}
 use Rattle.bk_store.specs.Stored.{Entry, Queue, NoQueue, OfMailbox, OfLine, Stored, Waiting, contents_in, message_at, message_in, object_of, oldest, oldest_from, facts_in, received, received_from, sent, waiting_in, with_mail, with_queue, without_message as without_mail}
 use Rattle.bk_store.specs.Joined.{FitsKind, HaveKinds}
-use Rattle.bk_store.proofs.Entries.{some_same}
 use Rattle.bk_store.proofs.Stands.{get-objects_of}
 use Rattle.bk_calls.specs.declared.caller.Caller.{Caller}
 use Rattle.bk_calls.specs.Made.{seen_by}
@@ -45,12 +47,6 @@ taken-agrees words (OfMailbox waiting) None = by waiting.messages waiting.lost
     by [] lost = refl
     by (message ∷ messages) lost = refl
 taken-agrees words (OfLine bytes) None = refl
-
-mailbox_kind : (kind : Kind) → is_mailbox kind ≡ true → kind ≡ Mailbox
-mailbox_kind Directory h = cc
-mailbox_kind Segment h = cc
-mailbox_kind Mailbox h = refl
-mailbox_kind (Line n) h = cc
 
 -- what waits in the mailbox at the path
 pub mailbox_at : {P : Type 0} (store : Stored) (path : Path) (facts : Facts) → HaveKinds store → facts_in store path ≡ Some facts → is_mailbox facts.kind ≡ true →
@@ -82,7 +78,7 @@ its-values waiting message e = by waiting.messages waiting.lost e
   where
     by : (messages : List (List ℕ)) (lost : ℕ) → oldest_from lost messages ≡ Some message → message_values (Messages messages lost) ≡ values_of message
     by [] lost h = cc
-    by (first ∷ messages) lost h = ap values_of (some_same (record { words = first; lost = lost }) message h)
+    by (first ∷ messages) lost h = ap values_of (same_Some (record { words = first; lost = lost }) message h)
 
 none-taken : (waiting : Waiting) → oldest waiting ≡ None → received waiting ≡ waiting
 none-taken waiting e = by waiting.messages waiting.lost e

@@ -2,6 +2,7 @@
 use Rattle.std.proofs.Common.{◌≡◌, ℕ, true, List, ◌∷◌, length, replicate, Option, Some, None, refl, sym, ap, ◌∙◌}
 use Rattle.std.specs.Prelude.{is_none, nat_lt, option_map, if◌then◌else◌}
 use Rattle.std.proofs.lemmas.List.{length-replicate}
+use Rattle.std.proofs.lemmas.Option.{same_Some}
 use Rattle.bk_path.specs.Paths.{Path}
 use Rattle.bk_object.specs.declared.Facts.{Facts}
 use Rattle.bk_quota.specs.Usage.{Usage}
@@ -10,7 +11,6 @@ use Rattle.bk_state.specs.State.{State}
 use Rattle.bk_state.specs.Calls.{child_at}
 use Rattle.bk_store.specs.Stands.{StandsFor}
 use Rattle.bk_store.specs.Stored.{Stored, cell_of, facts_in}
-use Rattle.bk_store.proofs.Entries.{some_same}
 use Rattle.bk_store.proofs.Stands.{stands-cell}
 use Rattle.bk_calls.specs.declared.caller.Caller.{Caller}
 use Rattle.bk_calls.specs.declared.reach.Reached.{Reached}
@@ -43,7 +43,7 @@ module _ (caller : Caller) (store : Stored) (words : List ℕ) where
     where
       by : (o : Option Facts) → option_map (child_of path entry) o ≡ Some child → o ≡ Some child.facts
       by None e = cc
-      by (Some f) e = ap (λ (x : Reached). Some x.facts) (some_same (child_of path entry f) child e)
+      by (Some f) e = ap (λ (x : Reached). Some x.facts) (same_Some (child_of path entry f) child e)
 
   pub its_path : (path : Path) (entry : ℕ) (r : Option Reached) (child : Reached) → r ≡ option_map (child_of path entry) (if nat_lt (length path) 7 then facts_in store (entry ∷ path) else None) → r ≡ Some child →
       child.path ≡ entry ∷ path
@@ -51,7 +51,7 @@ module _ (caller : Caller) (store : Stored) (words : List ℕ) where
     where
       by : (o : Option Facts) → option_map (child_of path entry) o ≡ Some child → child.path ≡ entry ∷ path
       by None e = cc
-      by (Some f) e = sym (ap (λ (x : Reached). x.path) (some_same (child_of path entry f) child e))
+      by (Some f) e = sym (ap (λ (x : Reached). x.path) (same_Some (child_of path entry f) child e))
 
   -- the cell that governs the directory is that of the state
   pub cell-seen : (asked path : Path) (cell : Usage) → asked ≡ path → cell ≡ cell_of store path → cell ≡ record { limit = quota_at seen (governing seen asked); used = used seen (governing seen asked) }

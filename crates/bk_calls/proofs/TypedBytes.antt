@@ -2,18 +2,19 @@
 use Rattle.std.proofs.Common.{◌≡◌, ℕ, true, false, List, [], ◌∷◌, Option, Some, None, refl, sym, ap, subst, ◌∙◌}
 use Rattle.std.specs.Prelude.{option_map}
 use Rattle.std.specs.FinMap as finite
+use Rattle.std.proofs.lemmas.Option.{same_Some}
 use Rattle.bk_path.specs.Paths.{Path}
 use Rattle.bk_frames.specs.Extents.{Extent}
 use Rattle.bk_object.specs.declared.Facts.{Facts}
 use Rattle.bk_object.specs.declared.kind.Kind.{Kind}
 use Rattle.bk_object.specs.declared.kind.Kind.TheVariants.{Directory, Segment, Mailbox, Line}
+use Rattle.bk_object.specs.Kinds.{is_any_line}
 use Rattle.bk_quota.specs.Charges.{passes}
 use Rattle.bk_state.specs.State.{Object, Contents, Typed, find}
-use Rattle.bk_state.specs.Calls.{has_byte, is_some_line}
+use Rattle.bk_state.specs.Calls.{has_byte}
 use Rattle.bk_state.specs.Answers.{byte_on, byte_values, line_of, of_contents, without_byte}
 use Rattle.bk_store.specs.Stored.{Entry, Queue, NoQueue, OfMailbox, OfLine, Stored, byte_at, byte_in, contents_in, first_of, facts_in, object_of, with_input, with_queue, without_byte as without_typed, without_first}
 use Rattle.bk_store.specs.Joined.{FitsKind, HaveKinds}
-use Rattle.bk_store.proofs.Entries.{some_same}
 use Rattle.bk_store.proofs.Stands.{get-objects_of}
 use Rattle.bk_calls.specs.declared.caller.Caller.{Caller}
 use Rattle.bk_calls.specs.Made.{line_byte, seen_by}
@@ -27,14 +28,14 @@ byte-agrees words (OfMailbox waiting) None = refl
 byte-agrees words (OfLine []) None = refl
 byte-agrees words (OfLine (byte ∷ bytes)) None = refl
 
-line_kind : (kind : Kind) → is_some_line kind ≡ true → (n : ℕ) × (kind ≡ Line n)
+line_kind : (kind : Kind) → is_any_line kind ≡ true → (n : ℕ) × (kind ≡ Line n)
 line_kind Directory h = cc
 line_kind Segment h = cc
 line_kind Mailbox h = cc
 line_kind (Line n) h = (n, refl)
 
 -- what waits on the line at the path
-pub line_at : {P : Type 0} (store : Stored) (path : Path) (facts : Facts) → HaveKinds store → facts_in store path ≡ Some facts → is_some_line facts.kind ≡ true →
+pub line_at : {P : Type 0} (store : Stored) (path : Path) (facts : Facts) → HaveKinds store → facts_in store path ≡ Some facts → is_any_line facts.kind ≡ true →
     ((bytes : List ℕ) → finite.get store.objects path ≡ Some (record { facts = facts; extent = None; queue = OfLine bytes }) → P) → P
 line_at {P} store path facts kinds has h use_it = entry_there store path facts has (λ e is same.
     let line = line_kind facts.kind h in
@@ -51,13 +52,13 @@ one-waits (first ∷ bytes) byte e = refl
 
 its-values : (bytes : List ℕ) (byte : ℕ) → first_of bytes ≡ Some byte → byte_values (Typed bytes) ≡ 0 ∷ 0 ∷ byte ∷ []
 its-values [] byte e = cc
-its-values (first ∷ bytes) byte e = ap (λ (n : ℕ). 0 ∷ 0 ∷ n ∷ []) (some_same first byte e)
+its-values (first ∷ bytes) byte e = ap (λ (n : ℕ). 0 ∷ 0 ∷ n ∷ []) (same_Some first byte e)
 
 none-taken : (bytes : List ℕ) → first_of bytes ≡ None → without_first bytes ≡ bytes
 none-taken [] e = refl
 none-taken (byte ∷ bytes) e = cc
 
-module _ (caller : Caller) (store : Stored) (words : List ℕ) (path : Path) (facts : Facts) (kinds : HaveKinds store) (has : facts_in store path ≡ Some facts) (line : is_some_line facts.kind ≡ true) where
+module _ (caller : Caller) (store : Stored) (words : List ℕ) (path : Path) (facts : Facts) (kinds : HaveKinds store) (has : facts_in store path ≡ Some facts) (line : is_any_line facts.kind ≡ true) where
   abbrev waits : List ℕ → Entry
   waits bytes = record { facts = facts; extent = None; queue = OfLine bytes }
 

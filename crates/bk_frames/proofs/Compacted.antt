@@ -6,12 +6,12 @@ use Rattle.std.proofs.lemmas.List.Sums.{sum_by-cons}
 use Rattle.std.specs.Ordering.{nat_cmp}
 use Rattle.std.specs.Cmp.{nat_cmp_total}
 use Rattle.std.specs.FinMap.{from_entries, nat_cmp-IsAntisymmetric}
-use Rattle.bk_frames.specs.Maps.{map_values, IsDistinct}
+use Rattle.bk_base.specs.Maps.{map_values, IsDistinct}
+use Rattle.bk_base.proofs.Totals.{total_of}
+use Rattle.bk_base.proofs.Distinct.{total_of-from_entries}
 use Rattle.bk_frames.specs.declared.segments.Segment.{Segment}
 use Rattle.bk_frames.specs.Extents.{Extent, Standing, segments_of, sizes_of, words_at, blocks_below, moved_down, SameOutside, IsApart}
 use Rattle.bk_frames.specs.Segments.{IsStacked, IsFrames, compacted, words_after, entries_of, extents_of, extent_of}
-use Rattle.bk_frames.proofs.Totals.{total_of}
-use Rattle.bk_frames.proofs.Distinct.{total_of-from_entries}
 use Rattle.bk_frames.proofs.Entries.{each_of, values_is, distinct-compacted, sizes-compacted}
 use Rattle.bk_frames.proofs.WordsKept.{Kept, kept}
 use Rattle.bk_frames.proofs.Placed.{standing, is_apart}

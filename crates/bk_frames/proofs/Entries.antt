@@ -1,27 +1,21 @@
 -- The maps of a list of segments.
-use Rattle.std.proofs.Common.{◌≡◌, ℕ, ◌+◌, ◌≤◌, ◌≢◌, inl, inr, Bool, true, false, cond, List, [], ◌∷◌, ◌++◌, map, Some, None, refl, sym, ap, subst, ◌∙◌, arith, Ordering, Less, Equal, Greater, is_eq}
-use Rattle.std.specs.Prelude.{option_map, unwrap_or}
+use Rattle.std.proofs.Common.{◌≡◌, ℕ, ◌+◌, ◌≤◌, ◌≢◌, inl, inr, Bool, true, false, cond, List, [], ◌∷◌, ◌++◌, map, Some, None, refl, sym, ap, subst, ◌∙◌, arith}
+use Rattle.std.specs.Prelude.{option_map}
 use Rattle.std.specs.Ordering.{nat_cmp, eq_by_cmp}
 use Rattle.std.specs.Cmp.{nat_cmp_total}
 use Rattle.std.specs.FinMap.{find, insert, from_entries, get-from_entries, from_entries_push, same_map, nat_cmp-IsAntisymmetric}
-use Rattle.bk_frames.specs.Maps.{map_values, IsDistinct}
-use Rattle.bk_frames.proofs.MapValues.{get-map_values}
+use Rattle.std.proofs.lemmas.Option.{same_Some}
+use Rattle.bk_base.specs.Maps.{map_values, IsDistinct}
+use Rattle.bk_base.proofs.Totals.{tied}
+use Rattle.bk_base.proofs.MapValues.{get-map_values}
 use Rattle.bk_frames.specs.declared.segments.Segment.{Segment}
 use Rattle.bk_frames.specs.Extents.{Extent, AreApart}
 use Rattle.bk_frames.specs.Segments.{IsStacked, compacted, entries_of, extents_of, extent_of}
 use Rattle.bk_frames.proofs.Stacked.{below_limit}
 
--- numbers that compare as equal are the same, and so are the values of equal options
-tied : (o : Ordering) → is_eq o ≡ true → o ≡ Equal
-tied Less e = cc
-tied Equal e = refl
-tied Greater e = cc
-
+-- numbers that compare as equal are the same
 pub same_number : (m n : ℕ) → eq_by_cmp nat_cmp m n ≡ true → m ≡ n
 same_number m n e = nat_cmp-IsAntisymmetric m n (tied (nat_cmp m n) e)
-
-some_same : {A : Type 0} (x y : A) → Some x ≡ Some y → x ≡ y
-some_same x y e = ap (λ o. unwrap_or o x) e
 
 -- an entry for each segment
 abbrev pub each_of : {Y : Type 0} → (Extent → Y) → List Segment → List (ℕ × Y)
@@ -86,7 +80,7 @@ found_within at limit q e (s ∷ ss) stacked h = by (eq_by_cmp nat_cmp q s.slot)
   where
     by : (b : Bool) → cond b (Some (extent_of s)) (find nat_cmp q (entries_of ss)) ≡ Some e → (find nat_cmp q (entries_of ss) ≡ Some e → (s.first + s.blocks ≤ e.first) × (e.first + e.blocks ≤ limit)) → (at ≤ e.first) × (e.first + e.blocks ≤ limit)
     by true h rest =
-        let same : extent_of s ≡ e = some_same (extent_of s) e h in
+        let same : extent_of s ≡ e = same_Some (extent_of s) e h in
         subst (λ x. (at ≤ x.first) × (x.first + x.blocks ≤ limit)) same (stacked.0, below_limit (s.first + s.blocks) limit ss stacked.2)
     by false h rest = (omega (arith, stacked.0, (rest h).0), (rest h).1)
 
@@ -103,9 +97,9 @@ found_apart at limit p q e f (s ∷ ss) stacked hp hq differ =
         cond b (Some (extent_of s)) (find nat_cmp p (entries_of ss)) ≡ Some e → cond c (Some (extent_of s)) (find nat_cmp q (entries_of ss)) ≡ Some f → (found e p → found f q → AreApart e f) → AreApart e f
     by true true pb qb h k rest = absurd (differ (same_number p s.slot pb ∙ sym (same_number q s.slot qb)))
     by true false pb qb h k rest =
-        let same : extent_of s ≡ e = some_same (extent_of s) e h in
+        let same : extent_of s ≡ e = same_Some (extent_of s) e h in
         inl (subst (λ x. x.first + x.blocks ≤ f.first) same (found_within (s.first + s.blocks) limit q f ss stacked.2 k).0)
     by false true pb qb h k rest =
-        let same : extent_of s ≡ f = some_same (extent_of s) f k in
+        let same : extent_of s ≡ f = same_Some (extent_of s) f k in
         inr (subst (λ x. x.first + x.blocks ≤ e.first) same (found_within (s.first + s.blocks) limit p e ss stacked.2 h).0)
     by false false pb qb h k rest = rest h k

@@ -4,8 +4,8 @@ use Rattle.std.specs.Ordering.{nat_cmp}
 use Rattle.std.specs.Cmp.{nat_cmp_total}
 use Rattle.std.specs.FinMap.{find, retain_keys, get-from_entries, get-retain_keys, same_map, nat_cmp-IsAntisymmetric}
 use Rattle.std.specs.FinMap.Entries.{where_key, find-where_key}
-use Rattle.bk_frames.specs.Maps.{IsDistinct}
-use Rattle.bk_frames.proofs.Distinct.{distinct-kept}
+use Rattle.bk_base.specs.Maps.{IsDistinct}
+use Rattle.bk_base.proofs.Distinct.{distinct-kept}
 use Rattle.bk_frames.specs.declared.segments.Segment.{Segment}
 use Rattle.bk_frames.specs.Segments.{IsStacked, IsFrames, entries_of, extents_of, extent_of}
 use Rattle.bk_frames.proofs.Stacked.{lower}

@@ -1,6 +1,3 @@
-pub mod MapValues
-pub mod Totals
-pub mod Distinct
 pub mod Stacked
 pub mod WordsKept
 pub mod Entries

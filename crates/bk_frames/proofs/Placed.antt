@@ -5,10 +5,10 @@ use Rattle.std.specs.Ordering.{nat_cmp, eq_by_cmp}
 use Rattle.std.specs.Cmp.{nat_cmp_total, tied_itself}
 use Rattle.std.specs.FinMap.{find, get, insert, from_entries, get-from_entries, nat_cmp-IsAntisymmetric, get-insert, from_entries_push}
 use Rattle.std.proofs.lemmas.List.{length-replicate, take_all}
+use Rattle.bk_base.specs.Maps.{IsDistinct}
+use Rattle.bk_base.proofs.Distinct.{distinct-push, total_of-from_entries}
+use Rattle.bk_base.proofs.Totals.{total_of}
 use Rattle.bk_core.proofs.Blocks.{piece, piece-of-take, piece-at, take-below, drop-above}
-use Rattle.bk_frames.specs.Maps.{IsDistinct}
-use Rattle.bk_frames.proofs.Distinct.{distinct-push, total_of-from_entries}
-use Rattle.bk_frames.proofs.Totals.{total_of}
 use Rattle.std.proofs.lemmas.List.Sums.{sum_by-cons}
 use Rattle.bk_frames.specs.declared.segments.Segment.{Segment}
 use Rattle.bk_frames.specs.Extents.{Extent, Standing, words_at, segments_of, sizes_of, taken_in, free_in, SameOutside, IsApart}

@@ -3,8 +3,8 @@ use Rattle.std.specs.Prelude.{◌≡◌, ℕ, ◌+◌, ◌-◌, ◌*◌, ◌≤�
 use Rattle.std.specs.Coded.{Coded, code_by, coded×, coded_ℕ}
 use Rattle.std.specs.FinMap as finite
 use Rattle.std.specs.Ordering.{nat_cmp}
+use Rattle.bk_base.specs.Maps.{map_values}
 use Rattle.bk_core.specs.Memory.{block_words}
-use Rattle.bk_frames.specs.Maps.{map_values}
 
 -- the first block, and how many
 pub record Extent : Type 0 where

@@ -2,10 +2,10 @@
 use Rattle.std.specs.Prelude.{ℕ, ◌+◌, ◌≤◌, List, [], ◌∷◌, map}
 use Rattle.std.specs.FinMap as finite
 use Rattle.std.specs.Ordering.{nat_cmp}
+use Rattle.bk_base.specs.Maps.{IsDistinct}
 use Rattle.bk_core.specs.Memory.{slid}
 use Rattle.bk_frames.specs.declared.segments.Segment.{Segment}
 use Rattle.bk_frames.specs.Extents.{Extent}
-use Rattle.bk_frames.specs.Maps.{IsDistinct}
 
 -- the extent of a segment, and the map from slots to extents that a list stands for
 abbrev pub extent_of : Segment → Extent

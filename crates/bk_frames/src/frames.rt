@@ -40,7 +40,7 @@ impl Model for Frames {
 
 impl Frames {
     ghost use Rattle.std.specs.Prelude.{◌+◌};
-    ghost use Rattle.bk_frames.specs.Maps.{map_values};
+    ghost use Rattle.bk_base.specs.Maps.{map_values};
     ghost use Rattle.bk_frames.specs.Extents.{segments_of, sizes_of, taken_in, free_in, moved_down, KeepsRoom, SameOutside, IsApart};
 
     /// Frames over so many blocks of core from a first one on, for slots below a number; nothing is placed. Or NoMemory.

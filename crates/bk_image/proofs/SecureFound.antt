@@ -6,7 +6,8 @@ use Rattle.std.specs.Cmp.{tied_itself}
 use Rattle.std.specs.FinMap as finmap
 use Rattle.bk_object.specs.declared.facts.Facts.{Facts}
 use Rattle.bk_path.specs.Paths.{Path, path_cmp}
-use Rattle.bk_state.proofs.Orders.{path_total, path_apart, tied}
+use Rattle.bk_base.proofs.Totals.{tied}
+use Rattle.bk_path.specs.Orders.{path_total, path_apart}
 use Rattle.bk_quota.specs.Charges.{passes}
 use Rattle.bk_state.specs.State.{Object}
 use Rattle.bk_state.specs.Start.{object_from}

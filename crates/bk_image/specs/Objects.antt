@@ -5,7 +5,7 @@ use Rattle.std.specs.Ordering.{is_lt}
 use Rattle.std.specs.FinMap as finmap
 use Rattle.bk_level.specs.Levels.{Level, dominates, level_at}
 use Rattle.bk_path.specs.Paths.{Path, path_cmp, is_root, parent}
-use Rattle.bk_object.specs.Kinds.{is_directory, kind_modes}
+use Rattle.bk_object.specs.Kinds.{is_directory, is_any_line, kind_modes}
 use Rattle.bk_object.specs.Modes.{is_within}
 use Rattle.bk_object.specs.Pairs.{split_pairs}
 use Rattle.bk_object.specs.declared.kind.Kind.{Kind}
@@ -177,12 +177,6 @@ quotas_at all [] at = Ok tt
 quotas_at all (o ∷ objects) at = do
   passed ← first_failing at ((field.Quota, is_over all o) ∷ [])
   quotas_at all objects (at + size o)
-
-abbrev pub is_any_line : Kind → Bool
-is_any_line Directory = false
-is_any_line Segment = false
-is_any_line Mailbox = false
-is_any_line (Line n) = true
 
 -- there are fewer line objects than lines
 abbrev pub lacks_lines : (lines : ℕ) → List ObjectRec → Bool

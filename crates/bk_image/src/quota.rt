@@ -2,6 +2,7 @@
 
 ghost use Rattle.std.specs.Prelude.{◌≡◌, ◌+◌, ◌*◌, ◌≤◌, ◌==◌, not, length, map, sum_by, MatchResult};
 ghost use Rattle.std.specs.List.{count_by};
+ghost use Rattle.bk_object.specs.Kinds as kinds;
 ghost use Rattle.bk_quota.specs.Charges as charges;
 ghost use Rattle.bk_image.specs.Parts.{Gives};
 ghost use Rattle.bk_image.specs.Objects as model;
@@ -151,7 +152,7 @@ fn check_quotas(objects: &[ObjectRec], shares: &[Share], start: u32) -> Result<(
 }
 
 fn is_any_line(kind: Kind) -> bool
-    ensures { result ≡ model.is_any_line kind }
+    ensures { result ≡ kinds.is_any_line kind }
 {
     match kind {
         Kind::Directory | Kind::Segment | Kind::Mailbox => false,
@@ -161,7 +162,7 @@ fn is_any_line(kind: Kind) -> bool
 
 // How many line objects there are.
 fn line_objects(objects: &[ObjectRec]) -> usize
-    ensures { result ≡ count_by (λ o. model.is_any_line o.facts.kind) objects.now }
+    ensures { result ≡ count_by (λ o. kinds.is_any_line o.facts.kind) objects.now }
 {
     let mut count = 0;
     for object in objects {

@@ -7,20 +7,22 @@ use Rattle.std.specs.Prelude.{option_map, unwrap_or, nat_lt, slice_set}
 use Rattle.std.specs.Ordering.{eq_by_cmp}
 use Rattle.std.specs.Cmp.{tied_itself}
 use Rattle.std.specs.FinMap as map
+use Rattle.bk_base.proofs.Totals.{tied}
 use Rattle.bk_object.specs.declared.kind.Kind.{Kind}
 use Rattle.bk_object.specs.declared.kind.Kind.TheVariants.{Directory, Segment, Mailbox, Line}
 use Rattle.bk_object.specs.declared.facts.Facts.{Facts}
 use Rattle.bk_object.specs.declared.modes.Modes.{Modes}
+use Rattle.bk_object.specs.Kinds.{is_segment}
 use Rattle.bk_path.specs.Paths.{Path, path_cmp}
 use Rattle.bk_path.specs.Orders.{path_total, path_apart}
-use Rattle.bk_tree.proofs.Totals.{tied}
 use Rattle.bk_quota.specs.Charges.{passes}
 use Rattle.bk_state.specs.State.{Object, Words}
 use Rattle.bk_state.specs.Start.{contents_from, object_from}
 use Rattle.bk_state.specs.Changes.{new_contents}
 use Rattle.bk_state.specs.declared.image.ObjectRec.{ObjectRec}
+use Rattle.bk_state.specs.Answers.{with_word}
 use Rattle.bk_image.specs.Objects.{Objects, room}
-use Rattle.bk_store.specs.Stored.{Entry, Stored, fresh, is_segment, object_of, objects_of, with_word, written, written_by, HasOffset}
+use Rattle.bk_store.specs.Stored.{Entry, Stored, fresh, object_of, objects_of, written, written_by, HasOffset}
 use Rattle.bk_store.proofs.Stands.{get-objects_of}
 
 -- the object with its first n words

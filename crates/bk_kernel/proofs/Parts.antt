@@ -4,6 +4,7 @@ use Rattle.std.proofs.Common.{◌≡◌, ℕ, ◌+◌, ◌≤◌, Bool, true, fa
 use Rattle.std.specs.Prelude.{option_map, unwrap_or, if◌then◌else◌}
 use Rattle.std.specs.Ordering.{eq_by_cmp}
 use Rattle.std.specs.FinMap as map
+use Rattle.bk_base.proofs.Totals.{part, tied, total-alike, total-insert, total-le}
 use Rattle.bk_object.specs.Kinds.{is_directory}
 use Rattle.bk_object.specs.declared.facts.Facts.{Facts}
 use Rattle.bk_path.specs.Paths.{Path, path_cmp, is_same}
@@ -12,7 +13,6 @@ use Rattle.bk_quota.specs.Charges.{passes, charge_of, governing_in, is_upgraded_
 use Rattle.bk_state.specs.State.{Object}
 use Rattle.bk_image.specs.Objects.{Objects, facts_at}
 use Rattle.bk_image.proofs.SecureLists.{mapped_some}
-use Rattle.bk_tree.proofs.Totals.{part, tied, total-alike, total-insert, total-le}
 
 abbrev pub facts_of : Object → Facts
 facts_of object = object.facts

@@ -4,6 +4,7 @@ use Rattle.std.specs.Prelude.{option_map, nat_lt, IfNone, slice_get}
 use Rattle.std.specs.FinMap as finite
 use Rattle.std.proofs.lemmas.Bool.Decides.{nat_tests}
 use Rattle.std.proofs.Common.{length-take, length-drop}
+use Rattle.std.proofs.lemmas.Option.{same_Some}
 use Rattle.bk_space.specs.AddrSpace.{Page, is_absent}
 use Rattle.bk_space.specs.declared.reference.Rights.{Rights}
 use Rattle.bk_space.specs.declared.reference.Rights.TheVariants as rights
@@ -12,14 +13,14 @@ use Rattle.bk_object.specs.declared.modes.Modes.{Modes}
 use Rattle.bk_object.proofs.ModeLemmas.{has-modes_where}
 use Rattle.bk_object.specs.declared.kind.Kind.{Kind}
 use Rattle.bk_object.specs.declared.kind.Kind.TheVariants.{Directory, Segment, Mailbox, Line}
+use Rattle.bk_object.specs.Kinds.{is_segment}
 use Rattle.bk_path.specs.Paths.{Path}
 use Rattle.bk_frames.specs.Extents.{Extent, words_at}
 use Rattle.bk_state.specs.Named.{passes}
 use Rattle.bk_state.specs.State.{Object, Contents, Children, Words, Messages, Typed}
-use Rattle.bk_store.specs.Stored.{Entry, Queue, NoQueue, OfMailbox, OfLine, Stored, HasOffset, contents_in, extent_at, extent_in, holds, is_segment, modes_held, object_of, waiting_in}
+use Rattle.bk_store.specs.Stored.{Entry, Queue, NoQueue, OfMailbox, OfLine, Stored, HasOffset, contents_in, extent_at, extent_in, holds, modes_held, object_of, waiting_in}
 use Rattle.bk_store.specs.Joined.{AreExtentsApart, FitsKind, HaveKinds}
 use Rattle.bk_store.proofs.Contents.{none_of_map}
-use Rattle.bk_store.proofs.Entries.{some_same}
 use Rattle.bk_store.proofs.Stands.{get-objects_of}
 use Rattle.bk_system.specs.Space.{is_data, no_page, page_by, page_from, page_shown, page_with, rights_by, rights_of, space_of}
 use Rattle.bk_kernel.specs.Turning.{Turning, shown_in, state_in, turning, words_in, IsPageOf}
@@ -35,7 +36,7 @@ pair_of e = (e.first, e.blocks)
 
 extent_is : (o : Option Extent) (first blocks : ℕ) → option_map pair_of o ≡ Some (first, blocks) → o ≡ Some (record { first = first; blocks = blocks })
 extent_is None first blocks h = cc
-extent_is (Some e) first blocks h = ap (λ (p : ℕ × ℕ). Some (record { first = p.0; blocks = p.1 })) (some_same (e.first, e.blocks) (first, blocks) h)
+extent_is (Some e) first blocks h = ap (λ (p : ℕ × ℕ). Some (record { first = p.0; blocks = p.1 })) (same_Some (e.first, e.blocks) (first, blocks) h)
 
 -- a segment's words, by an extent within core
 words-length : (words : List ℕ) (first blocks : ℕ) → length words ≡ 126976 → first + blocks ≤ 3968 → length (words_at words (record { first = first; blocks = blocks })) ≡ 32 * blocks
@@ -86,7 +87,7 @@ words_by words (Some e) x h = ap (λ y. words_in (Some (record { facts = e.facts
 is_inside : (kind : Kind) (blocks : ℕ) (extent : Option Extent) (queue : Queue) (x : Extent) → extent ≡ Some x → FitsKind kind blocks extent queue → (offset : ℕ) → offset < 64 * x.blocks → (is_segment kind && nat_lt offset (64 * blocks)) ≡ true
 is_inside Directory blocks extent queue x is fits offset lt = let none : extent ≡ None = fits.0 in cc
 is_inside Segment blocks extent queue x is fits offset lt =
-    let same : x.blocks ≡ blocks = some_same x.blocks blocks (ap (option_map (λ (e : Extent). e.blocks)) (sym is) ∙ fits.0) in
+    let same : x.blocks ≡ blocks = same_Some x.blocks blocks (ap (option_map (λ (e : Extent). e.blocks)) (sym is) ∙ fits.0) in
     grind (arith, nat_tests, same, lt)
 is_inside Mailbox blocks extent queue x is fits offset lt = let none : extent ≡ None = fits.0 in cc
 is_inside (Line n) blocks extent queue x is fits offset lt = let none : extent ≡ None = fits.0 in cc

@@ -2,14 +2,14 @@
 use Rattle.std.proofs.Common.{◌≡◌, ℕ, Bool, true, false, List, [], ◌∷◌, length, Option, Some, None, refl, sym, ap, ◌∙◌}
 use Rattle.std.specs.Prelude.{option_map, if◌then◌else◌}
 use Rattle.std.specs.FinMap as finite
+use Rattle.bk_base.specs.Maps.{map_values}
+use Rattle.bk_base.proofs.MapValues.{get-map_values}
 use Rattle.bk_path.specs.Paths.{path_cmp}
 use Rattle.bk_path.specs.Orders.{path_total, path_apart}
 use Rattle.bk_process.specs.declared.process.Process.{Process}
-use Rattle.bk_state.specs.Maps.{map_values}
 use Rattle.bk_state.specs.State.{State, Object, Contents, Children, Words, Messages, Typed}
 use Rattle.bk_state.specs.Start.{is_line}
 use Rattle.bk_state.specs.declared.clearance.Clearance.{Clearance}
-use Rattle.bk_state.proofs.MapsKept.{get-map_values}
 use Rattle.bk_store.specs.Stored.{Stored, Queue, NoQueue, OfMailbox, OfLine, kept, waiting_in, with_input, with_typed}
 use Rattle.bk_store.proofs.Stands.{stands-typed}
 use Rattle.bk_system.specs.Slot.{arrived, taking, typed}

@@ -10,8 +10,8 @@ use Rattle.bk_space.specs.declared.reference.Width.TheVariants.{Word, Byte}
 use Rattle.bk_path.specs.Paths.{Path}
 use Rattle.bk_state.specs.State.{State, Object, Contents, Children, Words, Messages, Typed}
 use Rattle.bk_state.specs.Changes.{changed_by}
-use Rattle.bk_state.specs.Answers.{with_contents}
-use Rattle.bk_store.specs.Stored.{Stored, objects_of, word_at, word_of, with_word, written as word_written, written_by as word_written_by}
+use Rattle.bk_state.specs.Answers.{with_contents, with_word}
+use Rattle.bk_store.specs.Stored.{Stored, objects_of, word_at, word_of, written as word_written, written_by as word_written_by}
 use Rattle.bk_system.specs.Turn.{stored_in, written, written_by}
 use Rattle.bk_kernel.specs.Turning.{Turning, after_write, merged, state_in, turning, shown_in, words_in, words_of, Locates}
 

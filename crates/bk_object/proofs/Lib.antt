@@ -1,2 +1,3 @@
 pub mod ModeLemmas
 pub mod RowLemmas
+pub mod KindLemmas

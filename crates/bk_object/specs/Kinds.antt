@@ -31,6 +31,25 @@ is_directory Segment = false
 is_directory Mailbox = false
 is_directory (Line n) = false
 
+abbrev pub is_segment : Kind → Bool
+is_segment Directory = false
+is_segment Segment = true
+is_segment Mailbox = false
+is_segment (Line n) = false
+
+abbrev pub is_mailbox : Kind → Bool
+is_mailbox Directory = false
+is_mailbox Segment = false
+is_mailbox Mailbox = true
+is_mailbox (Line n) = false
+
+-- a line, of whatever number
+abbrev pub is_any_line : Kind → Bool
+is_any_line Directory = false
+is_any_line Segment = false
+is_any_line Mailbox = false
+is_any_line (Line n) = true
+
 -- the number of the kind in images and registers
 abbrev pub kind_number : Kind → ℕ
 kind_number Directory = 0

@@ -1,6 +1,6 @@
 //! Objects: their kinds, access modes, rows, and the facts that are kept of each.
 //!
-//! Model: `specs/Modes.antt` (`Mode`, `has`, `union`, `without`), `specs/Kinds.antt` (`kind_modes`), `specs/Rows.antt` (`in_row`, `given`, `rescinded`).
+//! Model: `specs/Modes.antt` (`Mode`, `has`, `union`, `without`), `specs/Kinds.antt` (`kind_modes`, `is_directory`, `is_segment`, `is_mailbox`, `is_any_line`), `specs/Rows.antt` (`in_row`, `given`, `rescinded`).
 //! Calls: `Kind::modes`; `Row::new`, `get`, `add`, `remove`; `Modes::is_within`, and the operations of `Modes` as flags.
 //! Proved: a row answers for each subject what was added to it and not removed since; each kind has its modes.
 //! Stands on: `bitflags`.

@@ -24,7 +24,7 @@ use Rattle.bk_state.specs.Named.{is_named}
 use Rattle.bk_state.specs.Checks.{Cause, NotInRow, AboveGreatest, WrongCurrent, NoParentWrite, LevelFalls, Taken, OverQuota, NotHeld, Empty, TooLong, IsRoot, NoCall, NoPath, NotNamed, WrongKind, BadArgument, NoObject, Request, fails, modes_of, fits_current, new_facts}
 use Rattle.bk_state.specs.Changes.{changed, changed_by, changed_at, with_row, without_triples, new_object}
 use Rattle.bk_state.specs.Calls.{call_of, path_in, request_in, breaks_bounds, is_outside, is_no_object, has_wrong_argument, call_checks, is_for, needed_for, child_at, has_message, has_byte, is_empty, fails_service, fails_later, call_fails, call_refusal}
-use Rattle.bk_state.specs.Answers.{with_contents, deposited, put, without_message, without_byte, serviced, outcome, message_values, byte_values, entry_values, of_contents, size_of, service_values, reply, byte_on, sent_by, with_values, with_call, refused, answered_by, called_by, called}
+use Rattle.bk_state.specs.Answers.{with_contents, with_word, put, without_message, without_byte, serviced, outcome, message_values, byte_values, entry_values, of_contents, size_of, service_values, reply, byte_on, sent_by, with_values, with_call, refused, answered_by, called_by, called}
 
 -- ---- the object at a path becomes another
 
@@ -179,7 +179,7 @@ module _ (v w : State) (s : ℕ) (objects : v.objects ≡ w.objects) (access : v
   service_objects : (service : Service) (general : List ℕ) → (serviced v service general).objects ≡ (serviced w service general).objects
   service_objects Window general = objects
   service_objects Unwindow general = objects
-  service_objects Deposit general = changed_objects v w (path_in general) (with_contents (deposited (slice_index general 3 / 2) (slice_index general 4))) objects
+  service_objects Deposit general = changed_objects v w (path_in general) (with_contents (with_word (slice_index general 3 / 2) (slice_index general 4))) objects
   service_objects Send general = changed_objects v w (path_in general) (with_contents (put (slice_index general 0 ∷ slice_index general 3 ∷ slice_index general 4 ∷ slice_index general 5 ∷ []))) objects
   service_objects Receive general = changed_objects v w (path_in general) (with_contents without_message) objects
   service_objects LineOut general = objects
@@ -194,7 +194,7 @@ module _ (v w : State) (s : ℕ) (objects : v.objects ≡ w.objects) (access : v
   service_access : (service : Service) (general : List ℕ) → (serviced v service general).access ≡ (serviced w service general).access
   service_access Window general = access
   service_access Unwindow general = access
-  service_access Deposit general = kept_access v w (path_in general) (with_contents (deposited (slice_index general 3 / 2) (slice_index general 4))) access
+  service_access Deposit general = kept_access v w (path_in general) (with_contents (with_word (slice_index general 3 / 2) (slice_index general 4))) access
   service_access Send general = kept_access v w (path_in general) (with_contents (put (slice_index general 0 ∷ slice_index general 3 ∷ slice_index general 4 ∷ slice_index general 5 ∷ []))) access
   service_access Receive general = kept_access v w (path_in general) (with_contents without_message) access
   service_access LineOut general = access

@@ -1,5 +1,4 @@
 pub mod Orders
-pub mod MapsKept
 pub mod Triples
 pub mod SmallestSecure
 pub mod AlikeCalls

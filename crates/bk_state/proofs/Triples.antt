@@ -5,7 +5,7 @@ use Rattle.std.specs.FinMap.{nat_cmp-IsAntisymmetric}
 use Rattle.bk_object.specs.Modes.{Mode, Read, Execute, Write, Append, mode_number}
 use Rattle.bk_path.specs.Paths.{path_cmp}
 use Rattle.bk_state.specs.State.{Triple, triple_cmp}
-use Rattle.bk_state.proofs.Orders.{path_apart}
+use Rattle.bk_path.specs.Orders.{path_apart}
 
 first_tied : (a b : Ordering) → is_eq (ordering_then a b) ≡ true → (a ≡ Equal) × (b ≡ Equal)
 first_tied Less b e = cc

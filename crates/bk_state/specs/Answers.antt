@@ -27,11 +27,11 @@ abbrev pub with_contents : (Contents → Contents) → Object → Object
 with_contents change object = record { facts = object.facts; contents = change object.contents }
 
 -- the word at that place becomes another
-abbrev pub deposited : (place word : ℕ) → Contents → Contents
-deposited place word Children = Children
-deposited place word (Words words) = Words (slice_set words place word)
-deposited place word (Messages waiting lost) = Messages waiting lost
-deposited place word (Typed bytes) = Typed bytes
+abbrev pub with_word : (place word : ℕ) → Contents → Contents
+with_word place word Children = Children
+with_word place word (Words words) = Words (slice_set words place word)
+with_word place word (Messages waiting lost) = Messages waiting lost
+with_word place word (Typed bytes) = Typed bytes
 
 -- a message goes last where fewer than 16 wait; another is lost, and counted up to 65,535
 abbrev pub put : (message : List ℕ) → Contents → Contents
@@ -61,7 +61,7 @@ without_byte (Typed (byte ∷ bytes)) = Typed bytes
 abbrev pub serviced : State → Service → (general : List ℕ) → State
 serviced v Window general = v
 serviced v Unwindow general = v
-serviced v Deposit general = changed_at v (path_in general) (with_contents (deposited (slice_index general 3 / 2) (slice_index general 4)))
+serviced v Deposit general = changed_at v (path_in general) (with_contents (with_word (slice_index general 3 / 2) (slice_index general 4)))
 serviced v Send general = changed_at v (path_in general) (with_contents (put (slice_index general 0 ∷ slice_index general 3 ∷ slice_index general 4 ∷ slice_index general 5 ∷ [])))
 serviced v Receive general = changed_at v (path_in general) (with_contents without_message)
 serviced v LineOut general = v

@@ -3,9 +3,9 @@ use Rattle.std.specs.Prelude.{ℕ, zero, suc, ◌*◌, ◌/◌, ◌%◌, Bool, t
 use Rattle.std.specs.List.{list_any}
 use Rattle.bk_path.specs.Paths.{Path, unpack}
 use Rattle.bk_object.specs.Modes.{Mode, Read, Execute, Write, Append}
-use Rattle.bk_object.specs.Kinds.{is_directory}
+use Rattle.bk_object.specs.Kinds.{is_directory, is_segment, is_mailbox, is_any_line}
 use Rattle.bk_object.specs.declared.Kind.{Kind}
-use Rattle.bk_object.specs.declared.Kind.TheVariants.{Directory, Segment, Mailbox, Line}
+use Rattle.bk_object.specs.declared.Kind.TheVariants.{Directory, Segment, Mailbox}
 use Rattle.bk_object.specs.declared.Facts.{Facts}
 use Rattle.bk_state.specs.declared.rule.Rule.{Rule}
 use Rattle.bk_state.specs.declared.rule.Rule.TheVariants.{GetRead, GetAppend, GetExecute, GetWrite, Release, Give, Rescind, Create, DeleteGroup}
@@ -136,24 +136,6 @@ call_checks (Other service) = service_checks service
 
 -- ---- when each check fails
 
-abbrev pub is_segment : Kind → Bool
-is_segment Directory = false
-is_segment Segment = true
-is_segment Mailbox = false
-is_segment (Line n) = false
-
-abbrev pub is_mailbox : Kind → Bool
-is_mailbox Directory = false
-is_mailbox Segment = false
-is_mailbox Mailbox = true
-is_mailbox (Line n) = false
-
-abbrev pub is_some_line : Kind → Bool
-is_some_line Directory = false
-is_some_line Segment = false
-is_some_line Mailbox = false
-is_some_line (Line n) = true
-
 -- the kind of object that each service is for
 abbrev pub is_for : Service → Kind → Bool
 is_for Window kind = is_segment kind
@@ -161,8 +143,8 @@ is_for Unwindow kind = true
 is_for Deposit kind = is_segment kind
 is_for Send kind = is_mailbox kind
 is_for Receive kind = is_mailbox kind
-is_for LineOut kind = is_some_line kind
-is_for LineIn kind = is_some_line kind
+is_for LineOut kind = is_any_line kind
+is_for LineIn kind = is_any_line kind
 is_for Entry kind = is_directory kind
 is_for Identify kind = true
 is_for Quota kind = is_directory kind

@@ -1,5 +1,4 @@
 pub mod State
-pub mod Maps
 pub mod Named
 pub mod Quota
 pub mod Secure

@@ -4,6 +4,9 @@ use Rattle.std.specs.Prelude.{option_map, unwrap_or, if◌then◌else◌, sum_by
 use Rattle.std.specs.FinMap as finite
 use Rattle.std.specs.FinMap.Entries.{below_all}
 use Rattle.std.proofs.lemmas.List.Sums.{sum_by-cons}
+use Rattle.bk_base.specs.Maps.{map_values}
+use Rattle.bk_base.proofs.MapValues.{get-map_values}
+use Rattle.bk_base.proofs.Totals.{total_of}
 use Rattle.bk_object.specs.declared.Facts.{Facts}
 use Rattle.bk_object.specs.declared.kind.Kind.{Kind}
 use Rattle.bk_object.specs.declared.kind.Kind.TheVariants.{Directory, Segment, Mailbox, Line}
@@ -11,13 +14,10 @@ use Rattle.bk_object.specs.Kinds.{is_directory}
 use Rattle.bk_path.specs.Paths.{Path, parent, path_cmp, is_same}
 use Rattle.bk_quota.specs.Charges.{passes, charge_of, level_in, facts_in, is_upgraded_in, governing_in, quota_in, share_in, used_in}
 use Rattle.bk_quota.specs.Usage.{Usage}
-use Rattle.bk_state.specs.Maps.{map_values}
-use Rattle.bk_state.proofs.MapsKept.{get-map_values}
 use Rattle.bk_tree.specs.declared.place.Placed.{Placed}
 use Rattle.bk_tree.specs.Objects.{Objects, facts_of}
 use Rattle.bk_tree.specs.Kept.{cell_in, HasDirectory, Fits as FitsTree}
 use Rattle.bk_tree.specs.Needs.{blocks_of, core_by}
-use Rattle.bk_tree.proofs.Totals.{total_of}
 use Rattle.bk_store.specs.Stored.{Entry, Stored, Fits, cell_of, level_number}
 use Rattle.bk_store.specs.Joined.{Tables, entry_of, entries_of, or_zero, size_of, blocks_of as blocks_of_kind}
 use Rattle.bk_store.proofs.Entries.{get-entry}

@@ -8,6 +8,7 @@ use Rattle.std.proofs.lemmas.Bool.Decides.{nat_tests}
 use Rattle.bk_object.specs.Modes.{Mode, has}
 use Rattle.bk_object.specs.declared.modes.Modes.{Modes}
 use Rattle.std.proofs.Common.{◌≢◌}
+use Rattle.std.proofs.lemmas.Option.{same_Some}
 use Rattle.bk_access.specs.Held.{modes_at}
 use Rattle.bk_access.proofs.HeldLemmas.{elsewhere-with_modes}
 use Rattle.bk_object.specs.Modes.{union, without}
@@ -22,7 +23,6 @@ use Rattle.bk_tree.specs.declared.place.Placed.{Placed}
 use Rattle.bk_tree.specs.Objects.{Objects}
 use Rattle.bk_store.specs.Stored.{triples_of}
 use Rattle.bk_store.specs.Joined.{slot_in, is_held, access_of, HasSlots}
-use Rattle.bk_store.proofs.Entries.{some_same}
 use Rattle.bk_store.proofs.Triples.{in_range, subject_in, member, triples_there, triple_apart, alike}
 
 -- the triples that a change is about
@@ -35,7 +35,7 @@ module _ (tree : Objects) (held : Held) (keeps : HasSlots tree held) (path : Pat
       (λ e. let same : k ≡ slot = grind (arith, nat_tests, e) in
       let one : p ≡ path = keeps.own p path slot (is ∙ ap Some same) at in
       ap (is_same p) (sym one) ∙ is_same-itself p)
-      (λ e. let same : k ≡ slot = some_same k slot (sym is ∙ ap (slot_in tree) (same_path p path e) ∙ at) in
+      (λ e. let same : k ≡ slot = same_Some k slot (sym is ∙ ap (slot_in tree) (same_path p path e) ∙ at) in
       grind (arith, nat_tests, same))
 
   not_there : (p : Path) → slot_in tree p ≡ None → is_same p path ≡ false

@@ -3,18 +3,20 @@ use Rattle.std.proofs.Common.{◌≡◌, ℕ, List, Option, Some, None, refl, sy
 use Rattle.std.specs.Prelude.{option_map}
 use Rattle.std.specs.FinMap as finite
 use Rattle.std.specs.Ordering.{nat_cmp}
+use Rattle.std.proofs.lemmas.Option.{same_Some}
+use Rattle.bk_base.proofs.MapValues.{get-map_values}
 use Rattle.bk_level.specs.Levels.{Level}
 use Rattle.bk_object.specs.declared.kind.Kind.{Kind}
 use Rattle.bk_object.specs.declared.kind.Kind.TheVariants.{Directory, Segment, Mailbox, Line}
+use Rattle.bk_object.specs.Kinds.{is_segment}
 use Rattle.bk_path.specs.Paths.{Path}
 use Rattle.bk_access.specs.Held.{Held}
 use Rattle.bk_frames.specs.Extents.{Extent}
-use Rattle.bk_frames.proofs.MapValues.{get-map_values}
 use Rattle.bk_tree.specs.declared.place.Placed.{Placed}
 use Rattle.bk_tree.specs.Objects.{Objects}
-use Rattle.bk_store.specs.Stored.{Entry, extent_at, extent_in, is_segment}
+use Rattle.bk_store.specs.Stored.{Entry, extent_at, extent_in}
 use Rattle.bk_store.specs.Joined.{Tables, blocks_of, entries_of, entry_of, queue_at, store_of, FitsKind, HaveKinds, AreExtentsApart, IsStore}
-use Rattle.bk_store.proofs.Entries.{get-entry, some_same}
+use Rattle.bk_store.proofs.Entries.{get-entry}
 
 pub none_of_map : {A B : Type 0} (f : A → B) (o : Option A) → option_map f o ≡ None → o ≡ None
 none_of_map f None e = refl
@@ -44,7 +46,7 @@ module _ (levels : List Level) (lines : ℕ) (tree : Objects) (held : Held) (tab
     where
       by : (o : Option Placed) → finite.get tree p ≡ o → option_map (entry_of tables) o ≡ Some e → P
       by None is k = cc
-      by (Some a) is k = use_it a is (some_same (entry_of tables a) e k)
+      by (Some a) is k = use_it a is (same_Some (entry_of tables a) e k)
 
   pub its_blocks : (p : Path) (a : Placed) → finite.get tree p ≡ Some a → option_map (λ (e : Extent). e.blocks) (finite.get tables.frames.extents a.slot) ≡ blocks_of a.facts.kind a.facts.blocks
   its_blocks p a is = sym (get-map_values nat_cmp (λ e. e.blocks) tables.frames.extents a.slot) ∙ keeps.extents.sizes p a is

@@ -6,6 +6,9 @@ use Rattle.std.specs.Cmp.{nat_cmp_total, tied_itself}
 use Rattle.std.specs.FinMap as finite
 use Rattle.std.specs.FinSet as set
 use Rattle.std.proofs.lemmas.List.{get_or-set_same, get_or-set_other}
+use Rattle.std.proofs.lemmas.Option.{same_Some}
+use Rattle.bk_base.proofs.MapValues.{get-map_values, total-map_values}
+use Rattle.bk_base.proofs.Totals.{total_of, total-insert}
 use Rattle.bk_level.specs.Levels.{Level}
 use Rattle.bk_object.specs.declared.Facts.{Facts}
 use Rattle.bk_object.specs.declared.kind.Kind.{Kind}
@@ -16,18 +19,16 @@ use Rattle.bk_path.specs.Orders.{path_total, path_apart, same_path, is_same-itse
 use Rattle.bk_quota.specs.Charges.{passes, quota_in}
 use Rattle.bk_access.specs.Held.{Held, holds}
 use Rattle.bk_frames.specs.Extents.{Extent, Standing, KeepsRoom, IsApart, free_in, segments_of, sizes_of, taken_in, words_at}
-use Rattle.bk_frames.proofs.MapValues.{get-map_values, total-map_values}
 use Rattle.bk_frames.proofs.Entries.{same_number}
 use Rattle.bk_state.specs.Changes.{new_contents}
 use Rattle.bk_state.specs.State.{Triple, Contents, Words}
 use Rattle.bk_state.proofs.Orders.{triple_total}
 use Rattle.bk_tree.specs.declared.place.Placed.{Placed}
 use Rattle.bk_tree.specs.Objects.{Objects, IsAt, facts_of}
-use Rattle.bk_tree.proofs.Totals.{total_of, total-insert}
 use Rattle.bk_store.specs.Stored.{Queue, OfMailbox, OfLine, Stored, Fits, IsCreated, IsFreeLine, contents_in, fresh, objects_of, waiting_in}
 use Rattle.bk_store.specs.Joined.{Tables, slot_in, is_held, access_of, entries_of, entry_of, new_words, no_mail, or_zero, queue_at, segment_blocks, size_of, store_of, with_new_input, with_some, HasExtents, HasSlots, IsStore}
 use Rattle.bk_store.proofs.Triples.{in_range, member, triple_apart}
-use Rattle.bk_store.proofs.Entries.{get-entry, some_same}
+use Rattle.bk_store.proofs.Entries.{get-entry}
 use Rattle.bk_tree.specs.Kept.{Fits as FitsTree}
 use Rattle.bk_tree.specs.Needs.{blocks_in}
 use Rattle.bk_tree.specs.Refused.{Refuses}
@@ -125,7 +126,7 @@ module _ (tree : Objects) (path : Path) (slot : ℕ) (facts : Facts) (free : fin
   one_of {P} p a h new_one old_one = by (is_same p path) refl (sym (get-grown p) ∙ h)
     where
       by : (b : Bool) → is_same p path ≡ b → cond b (Some placed) (finite.get tree p) ≡ Some a → P
-      by true is e = new_one (same_path p path is) (some_same placed a e)
+      by true is e = new_one (same_path p path is) (same_Some placed a e)
       by false is e = old_one e
 
   slot_placed : {P : Type 0} (m : Objects) (p : Path) (k : ℕ) → slot_in m p ≡ Some k → ((f : Facts) → IsAt m p k f → P) → P
@@ -133,7 +134,7 @@ module _ (tree : Objects) (path : Path) (slot : ℕ) (facts : Facts) (free : fin
     where
       by : (o : Option Placed) → finite.get m p ≡ o → option_map (λ (a : Placed). a.slot) o ≡ Some k → P
       by None is h = cc
-      by (Some a) is h = use_it a.facts (is ∙ (λ i. Some (record { slot = some_same a.slot k h i; facts = a.facts })))
+      by (Some a) is h = use_it a.facts (is ∙ (λ i. Some (record { slot = same_Some a.slot k h i; facts = a.facts })))
 
   -- nobody had the slot
   pub slot_new : (p : Path) (a : Placed) → finite.get tree p ≡ Some a → a.slot ≢ slot

@@ -6,6 +6,8 @@ use Rattle.std.specs.Cmp.{nat_cmp_total, unsigned_tied}
 use Rattle.std.specs.FinMap as finite
 use Rattle.std.specs.FinSet as set
 use Rattle.std.proofs.lemmas.Bool.Decides.{nat_tests}
+use Rattle.bk_base.proofs.MapValues.{get-map_values as get-sizes}
+use Rattle.bk_base.proofs.Totals.{part, total_of}
 use Rattle.bk_level.specs.Levels.{Level}
 use Rattle.bk_object.specs.declared.Facts.{Facts}
 use Rattle.bk_object.specs.Modes.{no_modes}
@@ -15,12 +17,10 @@ use Rattle.bk_quota.specs.Charges.{passes}
 use Rattle.bk_access.specs.Held.{Held, holds, modes_at, cleared}
 use Rattle.bk_access.proofs.HeldLemmas.{holds-cleared, at-cleared, elsewhere-cleared}
 use Rattle.bk_frames.specs.Extents.{Extent, Standing, KeepsRoom, IsApart, taken_in}
-use Rattle.bk_frames.proofs.MapValues.{get-map_values as get-sizes}
 use Rattle.bk_state.specs.State.{Triple}
 use Rattle.bk_state.proofs.Orders.{triple_total}
 use Rattle.bk_tree.specs.declared.place.Placed.{Placed}
 use Rattle.bk_tree.specs.Objects.{Objects, IsAt, facts_of, without, HasNone}
-use Rattle.bk_tree.proofs.Totals.{part, total_of}
 use Rattle.bk_store.specs.Stored.{Entry, Stored, without_group, without_one}
 use Rattle.bk_store.specs.Joined.{Tables, slot_in, is_held, access_of, entries_of, entry_of, queue_at, or_zero, segment_blocks, size_of, store_of, HasExtents, HasSlots, IsStore}
 use Rattle.bk_store.proofs.Triples.{in_range, member, triple_apart, alike}

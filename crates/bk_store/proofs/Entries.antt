@@ -1,8 +1,10 @@
 -- The entries of a store by its tree: what an object has where it is, and which objects are one.
 use Rattle.std.proofs.Common.{◌≡◌, ℕ, Bool, true, false, cond, List, Option, Some, None, refl, sym, ap, ◌∙◌, is_some}
-use Rattle.std.specs.Prelude.{option_map, unwrap_or}
+use Rattle.std.specs.Prelude.{option_map}
 use Rattle.std.specs.FinMap as finite
 use Rattle.std.specs.FinSet as set
+use Rattle.std.proofs.lemmas.Option.{same_Some}
+use Rattle.bk_base.proofs.MapValues.{get-map_values}
 use Rattle.bk_level.specs.Levels.{Level}
 use Rattle.bk_state.specs.State.{triple_cmp}
 use Rattle.bk_object.specs.declared.Facts.{Facts}
@@ -10,7 +12,6 @@ use Rattle.bk_object.specs.declared.Slot.{Slot}
 use Rattle.bk_path.specs.Paths.{Path, path_cmp, is_same}
 use Rattle.bk_path.specs.Orders.{path_total, path_apart, ties-same}
 use Rattle.bk_quota.specs.Charges.{passes}
-use Rattle.bk_state.proofs.MapsKept.{get-map_values}
 use Rattle.bk_tree.specs.declared.place.Placed.{Placed}
 use Rattle.bk_tree.specs.Objects.{Objects, slot_of, IsAt}
 use Rattle.bk_store.specs.Stored.{Entry, Stored, changed_by, changed_at}
@@ -22,9 +23,6 @@ as_stored levels lines objects access = record { levels = levels; lines = lines;
 pub get-entry : (tree : Objects) (tables : Tables) (p : Path) → finite.get (entries_of tree tables) p ≡ option_map (entry_of tables) (finite.get tree p)
 get-entry tree tables p = get-map_values path_cmp (entry_of tables) tree p
 
-pub some_same : {A : Type 0} (x y : A) → Some x ≡ Some y → x ≡ y
-some_same x y e = ap (λ o. unwrap_or o x) e
-
 -- the object whose slot was found
 pub at_slot : (tree : Objects) (path : Path) (slot : Slot) → Some slot ≡ option_map slot_of (finite.get tree path) → (facts : Facts) × IsAt tree path slot.n facts
 at_slot tree path slot h = by (finite.get tree path) refl h
@@ -32,7 +30,7 @@ at_slot tree path slot h = by (finite.get tree path) refl h
     by : (o : Option Placed) → finite.get tree path ≡ o → Some slot ≡ option_map slot_of o → (facts : Facts) × IsAt tree path slot.n facts
     by None is h = cc
     by (Some a) is h =
-        let same : a.slot ≡ slot.n = ap (λ (s : Slot). s.n) (sym (some_same slot (slot_of a) h)) in
+        let same : a.slot ≡ slot.n = ap (λ (s : Slot). s.n) (sym (same_Some slot (slot_of a) h)) in
         (a.facts, is ∙ (λ i. Some (record { slot = same i; facts = a.facts })))
 
 pub none_at : (tree : Objects) (path : Path) → None ≡ option_map slot_of (finite.get tree path) → finite.get tree path ≡ None

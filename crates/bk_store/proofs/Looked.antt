@@ -5,12 +5,13 @@ use Rattle.std.specs.Ordering.{eq_by_cmp, nat_cmp}
 use Rattle.std.specs.FinMap as finite
 use Rattle.std.specs.Cmp.{nat_cmp_total}
 use Rattle.std.specs.FinSet as set
+use Rattle.bk_base.proofs.MapValues.{get-map_values as get-sizes}
+use Rattle.bk_base.proofs.Totals.{total_of, part, total-alike}
 use Rattle.bk_level.specs.Levels.{Level}
 use Rattle.bk_object.specs.Kinds.{is_directory}
 use Rattle.bk_object.specs.declared.kind.Kind.{Kind}
 use Rattle.bk_object.specs.declared.kind.Kind.TheVariants.{Directory, Segment, Mailbox, Line}
 use Rattle.bk_frames.specs.Extents.{Extent, sizes_of, taken_in}
-use Rattle.bk_frames.proofs.MapValues.{get-map_values as get-sizes}
 use Rattle.std.proofs.lemmas.List.{length-replicate}
 use Rattle.bk_object.specs.Modes.{Mode, Read, Execute, Write, Append, has, modes_where, no_modes}
 use Rattle.bk_object.specs.declared.Facts.{Facts}
@@ -27,10 +28,10 @@ use Rattle.bk_tree.specs.declared.place.Placed.{Placed}
 use Rattle.bk_tree.specs.Objects.{Objects, facts_of, begun as begun_tree}
 use Rattle.bk_store.specs.Stored.{Entry, NoQueue, begun}
 use Rattle.bk_store.specs.Joined.{Tables, blocks_of, entries_of, entry_of, no_mail, queue_at, or_zero, segment_blocks, size_of, slot_in, access_of, store_of, IsStore}
-use Rattle.bk_tree.proofs.Totals.{total_of, part, total-alike}
 use Rattle.std.proofs.lemmas.List.Sums.{sum_by-cons}
+use Rattle.std.proofs.lemmas.Option.{same_Some}
 use Rattle.bk_store.proofs.Triples.{in_range, subject_in, member, triple_apart}
-use Rattle.bk_store.proofs.Entries.{some_same, get-entry}
+use Rattle.bk_store.proofs.Entries.{get-entry}
 use Rattle.bk_path.specs.Orders.{same_path, ties-same}
 
 bit_most : (b : Bool) (n : ℕ) → (if b then n else 0) ≤ n
@@ -105,14 +106,14 @@ module _ (levels : List Level) (lines slots : ℕ) (root : Facts) where
   is_root {P} p a h use_it = by (eq_by_cmp path_cmp p []) refl (sym (get-begun root p) ∙ h)
     where
       by : (b : Bool) → eq_by_cmp path_cmp p [] ≡ b → cond b (Some (record { slot = 0; facts = root })) None ≡ Some a → P
-      by true e h = use_it (same_path p [] (sym (ties-same p []) ∙ e)) (sym (some_same (record { slot = 0; facts = root }) a h))
+      by true e h = use_it (same_path p [] (sym (ties-same p []) ∙ e)) (sym (same_Some (record { slot = 0; facts = root }) a h))
       by false e h = cc
 
   root_slot : (p : Path) (k : ℕ) → slot_in (begun_tree root) p ≡ Some k → (p ≡ []) × (0 ≡ k)
   root_slot p k h = by (eq_by_cmp path_cmp p []) refl (sym (ap (option_map (λ (a : Placed). a.slot)) (get-begun root p)) ∙ h)
     where
       by : (b : Bool) → eq_by_cmp path_cmp p [] ≡ b → option_map (λ (a : Placed). a.slot) (cond b (Some (record { slot = 0; facts = root })) None) ≡ Some k → (p ≡ []) × (0 ≡ k)
-      by true e h = (same_path p [] (sym (ties-same p []) ∙ e), some_same 0 k h)
+      by true e h = (same_path p [] (sym (ties-same p []) ∙ e), same_Some 0 k h)
       by false e h = cc
 
   no_words : (kind : Kind) (blocks : ℕ) → is_directory kind ≡ true → blocks_of kind blocks ≡ None

@@ -3,6 +3,8 @@ use Rattle.std.proofs.Common.{◌≡◌, ◌≢◌, ℕ, Bool, true, false, cond
 use Rattle.std.specs.Prelude.{option_map, unwrap_or}
 use Rattle.std.specs.FinMap as finite
 use Rattle.std.specs.FinSet as set
+use Rattle.std.proofs.lemmas.Option.{same_Some}
+use Rattle.bk_base.proofs.Totals.{part, total-alike}
 use Rattle.bk_level.specs.Levels.{Level}
 use Rattle.bk_object.specs.declared.Facts.{Facts}
 use Rattle.bk_object.specs.declared.modes.Modes.{Modes}
@@ -13,12 +15,11 @@ use Rattle.bk_access.specs.Held.{Held, holds, modes_at}
 use Rattle.bk_state.proofs.Orders.{triple_total}
 use Rattle.bk_tree.specs.declared.place.Placed.{Placed}
 use Rattle.bk_tree.specs.Objects.{Objects, IsAt, facts_of}
-use Rattle.bk_tree.proofs.Totals.{part, total-alike}
 use Rattle.bk_frames.specs.Extents.{Standing, sizes_of}
 use Rattle.bk_store.specs.Joined.{Tables, slot_in, access_of, store_of, blocks_of, size_of, HasSlots, HasExtents, HasQueues, IsStore}
 use Rattle.bk_store.specs.Stored.{with_row, changed_at}
 use Rattle.bk_store.proofs.Triples.{in_range, member, triple_apart}
-use Rattle.bk_store.proofs.Entries.{some_same, one-changed}
+use Rattle.bk_store.proofs.Entries.{one-changed}
 
 module _ (tree : Objects) (path : Path) (slot : ℕ) (facts : Facts) (row : List Modes) (at : IsAt tree path slot facts) where
   abbrev pub changed : Placed
@@ -43,7 +44,7 @@ module _ (tree : Objects) (path : Path) (slot : ℕ) (facts : Facts) (row : List
     where
       by : (b : Bool) → is_same p path ≡ b → cond b (Some changed) (finite.get tree p) ≡ Some a → P
       by true e h =
-          let same = some_same changed a h in
+          let same = same_Some changed a h in
           use_it (record { slot = slot; facts = facts }) (ap (finite.get tree) (same_path p path e) ∙ at) (ap (λ x. x.slot) (sym same)) (ap (λ x. x.facts.kind) (sym same)) (ap (λ x. x.facts.blocks) (sym same))
       by false e h = use_it a h refl refl refl
 

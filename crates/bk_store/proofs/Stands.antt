@@ -4,6 +4,8 @@ use Rattle.std.specs.Prelude.{option_map, if◌then◌else◌}
 use Rattle.std.specs.Ordering.{eq_by_cmp}
 use Rattle.std.specs.FinMap as finite
 use Rattle.std.specs.FinSet as set
+use Rattle.bk_base.specs.Maps.{map_values}
+use Rattle.bk_base.proofs.MapValues.{get-map_values}
 use Rattle.bk_object.specs.declared.modes.Modes.{Modes}
 use Rattle.bk_object.specs.Modes.{Mode, Read, Execute, Write, Append, mode_number}
 use Rattle.bk_object.specs.declared.Facts.{Facts}
@@ -11,13 +13,11 @@ use Rattle.bk_object.specs.Rows.{given, rescinded}
 use Rattle.bk_path.specs.Paths.{Path, path_cmp, is_inferior}
 use Rattle.bk_path.specs.Orders.{path_total, path_apart}
 use Rattle.bk_frames.specs.Extents.{Extent}
-use Rattle.bk_state.specs.Maps.{map_values}
 use Rattle.bk_state.specs.Start.{is_line}
 use Rattle.bk_state.specs.State.{State, facts_at, triple_cmp, Object, Contents, Words, find}
 use Rattle.bk_quota.specs.Charges.{level_in}
 use Rattle.bk_state.specs.Quota.{governing, quota_at, used, level_number as state_level_number}
 use Rattle.bk_state.specs.Changes.{without_group as without_state_group, changed_at as state_changed_at, changed_by as state_changed_by, with_row as with_state_row, with_triple, without_triples}
-use Rattle.bk_state.proofs.MapsKept.{get-map_values}
 use Rattle.bk_state.proofs.Orders.{triple_total}
 use Rattle.bk_store.specs.Stored.{Entry, Queue, Stored, IsCreated, cell_of, changed_at, changed_by, contents_in, facts_in, fresh, kept, level_number, object_of, objects_of, triples_of, typing, waiting_in, with_given, with_held, with_input, with_queue, with_rescinded, with_row, with_typed, without_group, without_held, written}
 use Rattle.bk_store.specs.Stands.{StandsFor}

@@ -1,14 +1,9 @@
 -- Sums over maps from which a key is gone.
-use Rattle.std.proofs.Common.{◌≡◌, ℕ, ◌+◌, Bool, true, false, cond, not, Option, Some, None, refl, sym, ap, ◌∙◌, arith, is_eq, Ordering, Less, Equal, Greater}
+use Rattle.std.proofs.Common.{◌≡◌, ℕ, ◌+◌, Bool, true, false, cond, not, Option, Some, None, refl, sym, ap, ◌∙◌, arith, is_eq, Ordering}
 use Rattle.std.specs.Ordering.{eq_by_cmp}
 use Rattle.std.specs.Cmp.{IsTotalOrder, tied_itself}
 use Rattle.std.specs.FinMap.{FinMap, IsAntisymmetric, get, insert, get-insert, retain_keys, get-retain_keys, same_map, entries}
-use Rattle.bk_tree.proofs.Totals.{part, total_of, total-insert}
-
-tied : (o : Ordering) → is_eq o ≡ true → o ≡ Equal
-tied Less e = cc
-tied Equal e = refl
-tied Greater e = cc
+use Rattle.bk_base.proofs.Totals.{part, tied, total_of, total-insert}
 
 same_key : {K : Type 0} (R : K → K → Ordering) → IsAntisymmetric R → (a b : K) → eq_by_cmp R a b ≡ true → a ≡ b
 same_key R apart a b e = apart a b (tied (R a b) e)

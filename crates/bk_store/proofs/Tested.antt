@@ -9,11 +9,12 @@ use Rattle.bk_object.specs.declared.modes.Modes.{Modes}
 use Rattle.bk_object.specs.Kinds.{is_directory}
 use Rattle.bk_path.specs.Paths.{Path, path_cmp}
 use Rattle.std.specs.Ordering.{eq_by_cmp}
+use Rattle.std.proofs.lemmas.Option.{same_Some}
 use Rattle.bk_path.specs.Orders.{path_total}
 use Rattle.bk_quota.specs.Charges.{passes}
 use Rattle.bk_store.specs.Stored.{Stored, Entry, NoQueue, HasDirectory, IsFreeLine, IsThere, begun, changed_at, changed_by, with_row, with_given, with_rescinded, without_held}
 use Rattle.bk_object.specs.Rows.{given, rescinded}
-use Rattle.bk_store.proofs.Entries.{some_same, there as is_there}
+use Rattle.bk_store.proofs.Entries.{there as is_there}
 use Rattle.bk_object.specs.declared.kind.Kind.{Kind}
 use Rattle.bk_object.specs.declared.kind.Kind.TheVariants.{Line}
 
@@ -71,5 +72,5 @@ module _ (v : Stored) (levels : List Level) (lines : ℕ) (root : Facts) (is : v
       no_directory kind m yes_directory line = let both : true ≡ false = sym yes_directory ∙ ap is_directory line in cc
 
       by : (b : Bool) (x : Entry) (m : ℕ) → cond b (Some only) None ≡ Some x → x.facts.kind ≡ Line m → ⊥
-      by true x m h kind = no_directory root.kind m directory (ap (λ (e : Entry). e.facts.kind) (some_same only x h) ∙ kind)
+      by true x m h kind = no_directory root.kind m directory (ap (λ (e : Entry). e.facts.kind) (same_Some only x h) ∙ kind)
       by false x m h kind = cc

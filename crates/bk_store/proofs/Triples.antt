@@ -1,9 +1,9 @@
 -- Which triples stand in the access set of a tree and an access table.
-use Rattle.std.proofs.Common.{◌≡◌, ℕ, zero, suc, ◌<◌, Bool, true, false, cond, ◌&&◌, ◌||◌, ◌==◌, List, [], ◌∷◌, map, Option, Some, None, refl, sym, ap, ◌∙◌, arith, is_some, is_eq, Ordering, Less, Equal, Greater}
+use Rattle.std.proofs.Common.{◌≡◌, ℕ, zero, suc, ◌<◌, Bool, true, false, cond, ◌&&◌, ◌||◌, ◌==◌, List, [], ◌∷◌, map, Option, Some, None, refl, sym, ap, ◌∙◌, arith, is_some, is_eq, Equal}
 use Rattle.std.specs.Prelude.{flat_map, filter, option_map}
 use Rattle.std.specs.List.{list_any}
 use Rattle.std.specs.Ordering.{eq_by_cmp, nat_cmp, ordering_then}
-use Rattle.std.specs.Cmp.{unsigned_tied}
+use Rattle.std.specs.Cmp.{tied_then, unsigned_tied}
 use Rattle.std.specs.FinMap as finite
 use Rattle.std.specs.FinSet as set
 use Rattle.std.specs.FinMap.{IsAntisymmetric}
@@ -23,16 +23,11 @@ use Rattle.bk_tree.specs.Objects.{Objects}
 use Rattle.bk_store.specs.Stored.{all_modes, triples_of}
 use Rattle.bk_store.specs.Joined.{is_held, below, all_triples, access_of}
 
-eq_then : (a b : Ordering) → is_eq (ordering_then a b) ≡ (is_eq a && is_eq b)
-eq_then Less b = refl
-eq_then Equal b = refl
-eq_then Greater b = refl
-
 -- when two triples tie
 tie : (s t : ℕ) (p q : Path) (x y : Mode) → eq_by_cmp triple_cmp (s, p, x) (t, q, y) ≡ ((s == t) && (is_same p q && (mode_number x == mode_number y)))
 tie s t p q x y =
-    eq_then (nat_cmp s t) (ordering_then (path_cmp p q) (nat_cmp (mode_number x) (mode_number y)))
-    ∙ (λ i. unsigned_tied s t i && (eq_then (path_cmp p q) (nat_cmp (mode_number x) (mode_number y)) ∙ (λ j. ties-same p q j && unsigned_tied (mode_number x) (mode_number y) j)) i)
+    sym (tied_then (nat_cmp s t) (ordering_then (path_cmp p q) (nat_cmp (mode_number x) (mode_number y))))
+    ∙ (λ i. unsigned_tied s t i && (sym (tied_then (path_cmp p q) (nat_cmp (mode_number x) (mode_number y))) ∙ (λ j. ties-same p q j && unsigned_tied (mode_number x) (mode_number y) j)) i)
 
 -- triples that tie are one
 pub triple_apart : IsAntisymmetric triple_cmp

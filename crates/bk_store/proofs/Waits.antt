@@ -4,20 +4,22 @@ use Rattle.std.specs.Prelude.{option_map, slice_set, slice_index_or, if◌then�
 use Rattle.std.specs.FinMap as finite
 use Rattle.std.proofs.lemmas.List.{get_or-set_same, get_or-set_other}
 use Rattle.std.proofs.lemmas.Bool.Decides.{nat_tests}
+use Rattle.std.proofs.lemmas.Option.{same_Some}
+use Rattle.bk_base.specs.Maps.{map_values}
+use Rattle.bk_base.proofs.MapValues.{get-map_values}
 use Rattle.bk_level.specs.Levels.{Level}
 use Rattle.bk_object.specs.declared.kind.Kind.{Kind}
 use Rattle.bk_object.specs.declared.kind.Kind.TheVariants.{Directory, Segment, Mailbox, Line}
+use Rattle.bk_object.specs.Kinds.{is_any_line}
 use Rattle.bk_path.specs.Paths.{Path, path_cmp, is_same}
 use Rattle.bk_path.specs.Orders.{path_total, path_apart, same_path, is_same-itself}
 use Rattle.bk_access.specs.Held.{Held}
-use Rattle.bk_state.specs.Maps.{map_values}
 use Rattle.bk_state.specs.Start.{is_line}
-use Rattle.bk_state.proofs.MapsKept.{get-map_values}
 use Rattle.bk_tree.specs.declared.place.Placed.{Placed}
 use Rattle.bk_tree.specs.Objects.{Objects}
-use Rattle.bk_store.specs.Stored.{Waiting, OfMailbox, OfLine, changed_at, is_any_line, is_mailbox, kept, number_of, typing, with_input, with_mail, with_queue, with_typed}
+use Rattle.bk_store.specs.Stored.{Waiting, OfMailbox, OfLine, changed_at, kept, number_of, typing, with_input, with_mail, with_queue, with_typed}
 use Rattle.bk_store.specs.Joined.{Tables, access_of, entries_of, entry_of, no_mail, queue_at, store_of, IsStore}
-use Rattle.bk_store.proofs.Entries.{as_stored, get-entry, one-changed, some_same}
+use Rattle.bk_store.proofs.Entries.{as_stored, get-entry, one-changed}
 
 -- the tables with other mailboxes, or with other typed bytes
 abbrev pub with_mailboxes : Tables → List Waiting → Tables
@@ -25,12 +27,6 @@ with_mailboxes tables mailboxes = record { frames = tables.frames; mailboxes = m
 
 abbrev pub with_inputs : Tables → List (List ℕ) → Tables
 with_inputs tables inputs = record { frames = tables.frames; mailboxes = tables.mailboxes; inputs = inputs }
-
-pub mailbox_kind : (kind : Kind) → is_mailbox kind ≡ true → kind ≡ Mailbox
-mailbox_kind Directory h = cc
-mailbox_kind Segment h = cc
-mailbox_kind Mailbox h = refl
-mailbox_kind (Line n) h = cc
 
 pub some_number : (kind : Kind) → is_any_line kind ≡ true → is_some (number_of kind) ≡ true
 some_number Directory h = cc
@@ -42,7 +38,7 @@ pub line_kind : (kind : Kind) (n : ℕ) → number_of kind ≡ Some n → kind �
 line_kind Directory n h = cc
 line_kind Segment n h = cc
 line_kind Mailbox n h = cc
-line_kind (Line m) n h = ap Line (some_same m n h)
+line_kind (Line m) n h = ap Line (same_Some m n h)
 
 module _ (lines : ℕ) (tree : Objects) (held : Held) (tables : Tables) (keeps : IsStore lines tree held tables) where
   pub mailboxes-kept : (mailboxes : List Waiting) → length mailboxes ≡ length tables.mailboxes → IsStore lines tree held (with_mailboxes tables mailboxes)

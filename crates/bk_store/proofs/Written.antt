@@ -5,22 +5,26 @@ use Rattle.std.specs.FinMap as finite
 use Rattle.std.proofs.lemmas.List.{drop-set-add, drop-set-lt, take-set-le, get_or-take, get_or-drop}
 use Rattle.std.proofs.Math.Seq.{take-set-lt}
 use Rattle.std.proofs.lemmas.Bool.Decides.{nat_tests}
+use Rattle.std.proofs.lemmas.Bool.{and_parts}
+use Rattle.std.proofs.lemmas.Option.{same_Some}
+use Rattle.bk_base.proofs.MapValues.{get-map_values}
 use Rattle.bk_level.specs.Levels.{Level}
 use Rattle.bk_path.specs.Paths.{Path, path_cmp, is_same}
 use Rattle.bk_path.specs.Orders.{path_total, path_apart, same_path, is_same-itself, ties-same}
 use Rattle.bk_access.specs.Held.{Held}
 use Rattle.bk_frames.specs.Extents.{Extent, words_at, AreApart}
-use Rattle.bk_state.proofs.MapsKept.{get-map_values}
 use Rattle.bk_state.specs.State.{Object, Words}
+use Rattle.bk_state.specs.Answers.{with_word}
 use Rattle.bk_tree.specs.declared.place.Placed.{Placed}
 use Rattle.bk_tree.specs.Objects.{Objects, IsAt}
-use Rattle.bk_store.specs.Stored.{Entry, Queue, contents_in, is_segment, object_of, objects_of, with_word, word_at, word_of, written, written_by}
+use Rattle.bk_store.specs.Stored.{Entry, Queue, contents_in, object_of, objects_of, word_at, word_of, written, written_by}
 use Rattle.bk_store.specs.Joined.{Tables, blocks_of, entries_of, entry_of, queue_at, store_of, IsStore}
 use Rattle.bk_object.specs.declared.Facts.{Facts}
 use Rattle.bk_object.specs.declared.kind.Kind.{Kind}
 use Rattle.bk_object.specs.declared.kind.Kind.TheVariants.{Directory, Segment, Mailbox, Line}
+use Rattle.bk_object.specs.Kinds.{is_segment}
 use Rattle.bk_quota.specs.Charges.{passes}
-use Rattle.bk_store.proofs.Entries.{get-entry, kind_is, some_same}
+use Rattle.bk_store.proofs.Entries.{get-entry, kind_is}
 use Rattle.bk_store.proofs.Contents.{extent_of_kind, its_blocks, some_mapped}
 
 -- a word of a piece
@@ -101,11 +105,7 @@ pub record WordPlace (first blocks offset : ℕ) : Type 0 where
 
 extent_is : (o : Option Extent) (p : ℕ × ℕ) → option_map (λ (e : Extent). (e.first, e.blocks)) o ≡ Some p → o ≡ Some (record { first = p.0; blocks = p.1 })
 extent_is None p h = cc
-extent_is (Some e) p h = ap (λ (p : ℕ × ℕ). Some (record { first = p.0; blocks = p.1 })) (some_same (e.first, e.blocks) p h)
-
-both_parts : (a b : Bool) → (a && b) ≡ true → (a ≡ true) × (b ≡ true)
-both_parts true b h = (refl, h)
-both_parts false b h = cc
+extent_is (Some e) p h = ap (λ (p : ℕ × ℕ). Some (record { first = p.0; blocks = p.1 })) (same_Some (e.first, e.blocks) p h)
 
 segment_has : (kind : Kind) (blocks : ℕ) → is_segment kind ≡ true → blocks_of kind blocks ≡ Some blocks
 segment_has Directory blocks h = cc
@@ -120,7 +120,7 @@ module _ (levels : List Level) (lines : ℕ) (tree : Objects) (held : Held) (tab
     (path : Path) (slot : ℕ) (facts : Facts) (at : IsAt tree path slot facts) (offset : ℕ)
     (has : passes (has_offset offset) (finite.get (entries_of tree tables) path) ≡ true) where
   parts : (is_segment facts.kind ≡ true) × (nat_lt offset (64 * facts.blocks) ≡ true)
-  parts = both_parts (is_segment facts.kind) (nat_lt offset (64 * facts.blocks)) (kind_is tree tables path slot facts (has_offset offset) at has)
+  parts = and_parts (is_segment facts.kind) (nat_lt offset (64 * facts.blocks)) (kind_is tree tables path slot facts (has_offset offset) at has)
 
   abbrev stands : Option Extent
   stands = finite.get tables.frames.extents slot
@@ -138,7 +138,7 @@ module _ (levels : List Level) (lines : ℕ) (tree : Objects) (held : Held) (tab
   word_place p is =
       let here = stands_at p is in
       let within = keeps.extents.apart.within slot (record { first = p.0; blocks = p.1 }) here in
-      let same : p.1 ≡ facts.blocks = some_same p.1 facts.blocks (sym (ap (option_map (λ (e : Extent). e.blocks)) here) ∙ blocks_there ∙ segment_has facts.kind facts.blocks parts.0) in
+      let same : p.1 ≡ facts.blocks = same_Some p.1 facts.blocks (sym (ap (option_map (λ (e : Extent). e.blocks)) here) ∙ blocks_there ∙ segment_has facts.kind facts.blocks parts.0) in
       let small : offset < 64 * facts.blocks = grind (arith, nat_tests, parts.1) in
       record {
         inside = omega (arith, same, small);

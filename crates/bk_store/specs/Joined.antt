@@ -4,6 +4,7 @@ use Rattle.std.specs.Prelude.{◌≡◌, ◌≢◌, ℕ, zero, suc, ◌+◌, ◌
 use Rattle.std.specs.FinMap as finite
 use Rattle.std.specs.FinSet as set
 use Rattle.std.specs.Ordering.{nat_cmp}
+use Rattle.bk_base.specs.Maps.{map_values}
 use Rattle.bk_level.specs.Levels.{Level}
 use Rattle.bk_path.specs.Paths.{Path, path_cmp}
 use Rattle.bk_quota.specs.Charges.{passes, quota_in}
@@ -16,7 +17,6 @@ use Rattle.bk_frames.specs.Extents.{Extent, Standing, sizes_of, taken_in, IsApar
 use Rattle.bk_queue.specs.Queues.{Mail, Typed}
 use Rattle.bk_tree.specs.declared.place.Placed.{Placed}
 use Rattle.bk_tree.specs.Objects.{Objects, facts_of}
-use Rattle.bk_state.specs.Maps.{map_values}
 use Rattle.bk_state.specs.State.{Triple, triple_cmp}
 use Rattle.bk_store.specs.Stored.{Waiting, Queue, NoQueue, OfMailbox, OfLine, Entry, Stored, all_modes, extent_in}
 

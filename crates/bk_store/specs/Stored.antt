@@ -1,13 +1,14 @@
 -- The store as its callers see it: the levels, the number of lines, each object by its path, and the current access set.
-use Rattle.std.specs.Prelude.{◌≡◌, true, ℕ, ◌+◌, ◌*◌, ◌<◌, ◌≤◌, ◌≢◌, ◌==◌, ◌&&◌, not, Bool, true, false, nat_lt, if◌then◌else◌, List, [], ◌∷◌, ◌++◌, length, map, filter, Option, Some, None, option_map, IsSome, IsTrue, slice_set, slice_index_or}
+use Rattle.std.specs.Prelude.{◌≡◌, true, ℕ, ◌+◌, ◌*◌, ◌<◌, ◌≤◌, ◌≢◌, ◌==◌, ◌&&◌, not, Bool, true, nat_lt, if◌then◌else◌, List, [], ◌∷◌, ◌++◌, length, map, filter, Option, Some, None, option_map, IsSome, IsTrue, slice_index_or}
 use Rattle.std.specs.FinMap as finite
 use Rattle.std.specs.FinSet as set
+use Rattle.bk_base.specs.Maps.{map_values}
 use Rattle.bk_level.specs.Levels.{Level}
 use Rattle.bk_object.specs.declared.Facts.{Facts}
 use Rattle.bk_object.specs.declared.kind.Kind.{Kind}
 use Rattle.bk_object.specs.declared.kind.Kind.TheVariants.{Directory, Segment, Mailbox, Line}
 use Rattle.bk_object.specs.declared.modes.Modes.{Modes}
-use Rattle.bk_object.specs.Kinds.{is_directory}
+use Rattle.bk_object.specs.Kinds.{is_directory, is_segment, is_mailbox, is_any_line}
 use Rattle.bk_object.specs.Modes.{Mode, Read, Execute, Write, Append, has, modes_where}
 use Rattle.bk_object.specs.Rows.{given, rescinded}
 use Rattle.bk_path.specs.Paths.{Path, path_cmp, parent, is_same, is_inferior}
@@ -16,8 +17,8 @@ use Rattle.bk_quota.specs.Usage.{Usage}
 use Rattle.bk_frames.specs.Extents.{Extent, words_at}
 use Rattle.bk_queue.specs.declared.mailbox.Message.{Message}
 use Rattle.bk_queue.specs.Queues.{counted_on}
+use Rattle.bk_state.specs.Answers.{with_word}
 use Rattle.bk_state.specs.Changes.{new_contents}
-use Rattle.bk_state.specs.Maps.{map_values}
 use Rattle.bk_state.specs.Start.{is_line}
 use Rattle.bk_state.specs.State.{Triple, triple_cmp, Object, Contents, Children, Words, Messages, Typed}
 
@@ -81,24 +82,6 @@ facts_in v path = option_map (λ e. e.facts) (finite.get v.objects path)
 -- an object is at the path
 abbrev pub IsThere : Stored → Path → Type 0
 IsThere v path = IsSome (finite.get v.objects path)
-
-abbrev pub is_segment : Kind → Bool
-is_segment Directory = false
-is_segment Segment = true
-is_segment Mailbox = false
-is_segment (Line n) = false
-
-abbrev pub is_mailbox : Kind → Bool
-is_mailbox Directory = false
-is_mailbox Segment = false
-is_mailbox Mailbox = true
-is_mailbox (Line n) = false
-
-abbrev pub is_any_line : Kind → Bool
-is_any_line Directory = false
-is_any_line Segment = false
-is_any_line Mailbox = false
-is_any_line (Line n) = true
 
 -- the number of a line
 abbrev pub number_of : Kind → Option ℕ
@@ -251,12 +234,6 @@ word_of i (Typed bytes) = 0
 abbrev pub word_at : ℕ → Option Object → ℕ
 word_at i None = 0
 word_at i (Some object) = word_of i object.contents
-
-abbrev pub with_word : (i value : ℕ) → Contents → Contents
-with_word i value Children = Children
-with_word i value (Words words) = Words (slice_set words i value)
-with_word i value (Messages waiting lost) = Messages waiting lost
-with_word i value (Typed bytes) = Typed bytes
 
 abbrev pub written_by : finite.FinMap path_cmp Object → Path → (i value : ℕ) → Option Object → finite.FinMap path_cmp Object
 written_by objects path i value None = objects

@@ -1,10 +1,10 @@
 -- Typed bytes, slots and runs.
 use Rattle.std.specs.Prelude.{ℕ, zero, suc, ◌%◌, List, [], ◌∷◌, ◌++◌, length, map, filter, fold, ◌==◌, nat_lt, slice_index, if◌then◌else◌}
+use Rattle.bk_base.specs.Maps.{map_values}
 use Rattle.bk_state.specs.declared.image.Image.{Image}
 use Rattle.bk_process.specs.declared.process.Process.{Process}
 use Rattle.bk_process.specs.declared.status.Status9.{Status9}
 use Rattle.bk_process.specs.declared.status.Status9.TheVariants.{Running, Paused, Stopped}
-use Rattle.bk_state.specs.Maps.{map_values}
 use Rattle.bk_state.specs.State.{State, Object, Contents, Children, Words, Messages, Typed}
 use Rattle.bk_state.specs.Start.{is_line, state_of}
 use Rattle.bk_system.specs.declared.script.TypedAt.{TypedAt}

@@ -3,14 +3,15 @@ use Rattle.std.proofs.Common.{◌≡◌, ◌≢◌, ℕ, ◌+◌, ◌≤◌, Boo
 use Rattle.std.specs.Prelude.{if◌then◌else◌}
 use Rattle.std.specs.FinMap.{get, insert, get-insert, entries}
 use Rattle.std.specs.Ordering.{eq_by_cmp}
+use Rattle.std.proofs.lemmas.Option.{same_Some}
+use Rattle.bk_base.proofs.Totals.{part, total-le, total-alike, total-insert}
 use Rattle.bk_path.specs.Paths.{Path, path_cmp, is_same, parent}
 use Rattle.bk_path.specs.Orders.{path_total, path_apart, same_path}
 use Rattle.bk_quota.specs.Charges.{charge_of, level_in, quota_in, is_upgraded_in, governing_in, share_in, used_in}
 use Rattle.bk_tree.specs.declared.place.Placed.{Placed}
 use Rattle.bk_tree.specs.Objects.{Objects, facts_of}
 use Rattle.bk_tree.specs.Kept.{has_cell, HasDirectory, IsClosed, IsKept}
-use Rattle.bk_tree.proofs.Totals.{part, total-le, total-alike, total-insert}
-use Rattle.bk_tree.proofs.Found.{some_same, tied_path}
+use Rattle.bk_tree.proofs.Found.{tied_path}
 use Rattle.bk_tree.proofs.Sums.{zeros}
 use Rattle.bk_tree.proofs.Room as room
 use Rattle.bk_tree.proofs.Smaller.{IsSmaller, quota_at, governing-same, level-same, has_cell-same, share-same}
@@ -103,7 +104,7 @@ module _ (m : Objects) (kept : IsKept m) (e : ℕ) (p : Path) (x : Placed) (free
       charged_by f r a true tie h =
           let is : r ≡ p = ap parent (tied_path (f ∷ r) (e ∷ p) tie) in
           let levels = level-same m added kept.parents smaller p above.0 above.1 in
-          let one : x ≡ a = some_same x a h in
+          let one : x ≡ a = same_Some x a h in
           let same : charge_of x.facts (level_in facts_of m p) ≡ charge_of a.facts (level_in facts_of added r) =
           (λ i. charge_of ((one i).facts) (levels i)) ∙ ap (λ r. charge_of a.facts (level_in facts_of added r)) (sym is) in
           omega (arith, some, same)
@@ -117,7 +118,7 @@ module _ (m : Objects) (kept : IsKept m) (e : ℕ) (p : Path) (x : Placed) (free
       within_by : (q : Path) (a : Placed) → has_cell added q ≡ true → (t : Bool) → eq_by_cmp path_cmp q (e ∷ p) ≡ t → cond t (Some x) (get m q) ≡ Some a → used_in facts_of added q ≤ a.facts.quota
       within_by q a cell true tie h =
           let is : q ≡ e ∷ p = tied_path q (e ∷ p) tie in
-          let one : x ≡ a = some_same x a h in
+          let one : x ≡ a = same_Some x a h in
           let (c, hc) = governing_there m kept.parents p above.0 above.1 in
           let other = apart_paths (governing_in facts_of m p) (e ∷ p) (λ same. absurd (cc (sym hc ∙ ap (get m) same ∙ free))) in
           let none : new_share (e ∷ p) ≡ 0 = ap (λ t. if t then charge_of x.facts (level_in facts_of m p) else 0) other in

@@ -1,7 +1,7 @@
 -- What the map of a list of places has once one place is changed.
 use Rattle.std.proofs.Common.{◌≡◌, ◌≢◌, ◌⊎◌, inl, inr, ℕ, zero, suc, ◌<◌, ◌≤◌, Bool, true, false, cond, not, List, [], ◌∷◌, length, replicate, Option, Some, None, refl, sym, ap, ◌∙◌, subst, arith, set, length-set}
 use Rattle.std.proofs.lemmas.List.{length-replicate}
-use Rattle.std.proofs.lemmas.Option.{slice_get_within}
+use Rattle.std.proofs.lemmas.Option.{slice_get_within, same_Some}
 use Rattle.bk_object.specs.declared.modes.Modes.{Modes}
 use Rattle.std.specs.Prelude.{slice_get, unwrap_or, option_map}
 use Rattle.std.specs.Ordering.{eq_by_cmp}
@@ -18,7 +18,7 @@ use Rattle.bk_tree.specs.Kept.{IsKept}
 use Rattle.bk_tree.proofs.Smaller.{bare}
 use Rattle.bk_tree.proofs.Keeping.{begun-kept, kept-row, kept-without}
 use Rattle.bk_tree.specs.Places.{entries_from, tree_of, IsApart, IsTree, IsRooted}
-use Rattle.bk_tree.proofs.Found.{some_same, tied_path, tied-itself, stands, is_there}
+use Rattle.bk_tree.proofs.Found.{tied_path, tied-itself, stands, is_there}
 
 pub same_or_not : (j k : ℕ) → (j ≡ k) ⊎ (j ≢ k)
 same_or_not zero zero = inl refl
@@ -71,7 +71,7 @@ elsewhere old new k old_apart new_apart others q not_old not_new = same_option (
         by (inr n) at = is_there new new_apart a.slot (record { path = q; facts = a.facts }) (others a.slot n ∙ at)
 
 pub held_path : (p q : Path) (f g : Facts) → Some (held p f) ≡ Some (held q g) → p ≡ q
-held_path p q f g e = ap (λ (x : Object). x.path) (some_same (record { path = p; facts = f }) (record { path = q; facts = g }) (some_same (held p f) (held q g) e))
+held_path p q f g e = ap (λ (x : Object). x.path) (same_Some (record { path = p; facts = f }) (record { path = q; facts = g }) (same_Some (held p f) (held q g) e))
 
 -- the object at a place has other facts now
 module _ (places : List (Option Object)) (k : ℕ) (p : Path) (f g : Facts) (apart : IsApart places) (lt : k < length places) (at : slice_get places k ≡ Some (held p f)) where
@@ -156,7 +156,7 @@ module _ (places : List (Option Object)) (tree : IsTree places) (k : ℕ) (p : P
       by (inr n) = (root, record { first = set-other places k 0 (held p g) n ∙ is.first; kind = is.kind; quota = is.quota ∙ sym (length-set places k (held p g)) })
       by (inl e) =
           let both = sym is.first ∙ ap (slice_get places) e ∙ at in
-          let one : root ≡ f = ap (λ (o : Object). o.facts) (some_same (record { path = []; facts = root }) (record { path = p; facts = f }) (some_same (held [] root) (held p f) both)) in (
+          let one : root ≡ f = ap (λ (o : Object). o.facts) (same_Some (record { path = []; facts = root }) (record { path = p; facts = f }) (same_Some (held [] root) (held p f) both)) in (
             g,
             record {
               first = ap (slice_get changed) e ∙ set-same places k (held p g) lt ∙ ap (λ r. Some (held r g)) (sym (held_path [] p root f both));
@@ -181,7 +181,7 @@ module _ (places seen new : List (Option Object)) (tree : IsTree places) (m : Ob
   pub row-map : (path : Path) (facts : Facts) → IsAt m path k facts → tree_of new ≡ insert m path (record { slot = k; facts = record facts { row = row } })
   row-map path facts h =
       let both = sym at ∙ stands places path k facts (ap (λ t. get t path) view ∙ h) in
-      let is : a ≡ record { path = path; facts = facts } = some_same a (record { path = path; facts = facts }) (some_same (Some a) (held path facts) both) in
+      let is : a ≡ record { path = path; facts = facts } = same_Some a (record { path = path; facts = facts }) (same_Some (Some a) (held path facts) both) in
       ap tree_of new_is
       ∙ tree_of-facts places k a.path a.facts (record a.facts { row = row }) tree.apart within at
       ∙ (λ i. insert (view i) ((is i).path) (record { slot = k; facts = record ((is i).facts) { row = row } }))

@@ -1,6 +1,9 @@
 -- The used number of a cell is counted over the places.
 use Rattle.std.proofs.Common.{◌≡◌, ◌≢◌, ℕ, suc, ◌+◌, ◌<◌, ◌≤◌, Bool, true, false, List, [], ◌∷◌, length, Option, Some, None, refl, sym, ap, ◌∙◌, arith}
 use Rattle.std.specs.Prelude.{sum_by, IsSome, IsTrue, ◌↔◌, not, ◌&&◌, ◌==◌}
+use Rattle.bk_base.specs.Maps.{IsDistinct}
+use Rattle.bk_base.proofs.Totals.{total_of}
+use Rattle.bk_base.proofs.Distinct.{total_of-from_entries}
 use Rattle.bk_quota.specs.Usage.{Usage, charged}
 use Rattle.bk_object.specs.Kinds.{is_directory}
 use Rattle.std.specs.FinMap.{find, get}
@@ -14,9 +17,6 @@ use Rattle.bk_tree.specs.declared.place.Object.{Object}
 use Rattle.bk_tree.specs.Objects.{Objects, facts_of}
 use Rattle.bk_tree.specs.Kept.{IsKept, cell_in}
 use Rattle.bk_tree.specs.Places.{entries_from, tree_of, share_of, IsApart, IsFull}
-use Rattle.bk_tree.proofs.IsDistinct.{IsDistinct}
-use Rattle.bk_tree.proofs.Totals.{total_of}
-use Rattle.bk_tree.proofs.Distinct.{total_of-from_entries}
 use Rattle.bk_tree.proofs.Found.{found-at}
 use Rattle.bk_tree.proofs.Smaller.{quota_at}
 use Rattle.bk_tree.proofs.Added.{governing_there}

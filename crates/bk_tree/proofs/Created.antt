@@ -5,6 +5,8 @@ use Rattle.std.specs.Ordering.{eq_by_cmp}
 use Rattle.std.specs.FinMap.{get, insert, entries, get-insert, same_map, len-entries}
 use Rattle.std.proofs.lemmas.Option.{slice_get_within}
 use Rattle.std.proofs.lemmas.Bool.Decides.{nat_tests}
+use Rattle.bk_base.proofs.Totals.{total-insert}
+use Rattle.bk_base.proofs.Distinct.{total_of-from_entries}
 use Rattle.bk_object.specs.declared.Facts.{Facts}
 use Rattle.bk_object.specs.declared.Slot.{Slot}
 use Rattle.bk_object.specs.declared.Kind.{Kind}
@@ -18,8 +20,6 @@ use Rattle.bk_tree.specs.declared.place.Object.{Object}
 use Rattle.bk_tree.specs.Objects.{Objects, facts_of}
 use Rattle.bk_tree.specs.Kept.{Fits, HasBlocks, HasDirectory, HasQuota, IsFit, IsKept}
 use Rattle.bk_tree.specs.Places.{entries_from, tree_of, IsApart, IsFull, IsRooted, IsTree}
-use Rattle.bk_tree.proofs.Totals.{total-insert}
-use Rattle.bk_tree.proofs.Distinct.{total_of-from_entries}
 use Rattle.bk_tree.proofs.Found.{tied_path, tied-itself, is_there}
 use Rattle.bk_tree.proofs.Smaller.{charge_by, charge_is, level_at, upgraded_at}
 use Rattle.bk_tree.proofs.Added.{kept-added, still_there}

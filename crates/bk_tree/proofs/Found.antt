@@ -1,9 +1,10 @@
 -- What is looked up in the map of a list of places is what stands at the place.
 use Rattle.std.proofs.Common.{◌≡◌, ℕ, zero, suc, ◌+◌, Bool, true, false, cond, List, [], ◌∷◌, Option, Some, None, refl, sym, ap, ◌∙◌, subst, arith, is_eq}
-use Rattle.std.specs.Prelude.{slice_get, unwrap_or, option_map, IfSome, IsNone, IsSome, ◌↔◌}
+use Rattle.std.specs.Prelude.{slice_get, option_map, IfSome, IsNone, IsSome, ◌↔◌}
 use Rattle.std.specs.Ordering.{eq_by_cmp}
 use Rattle.std.specs.Cmp.{tied_itself}
 use Rattle.std.specs.FinMap.{find, get, get-from_entries}
+use Rattle.std.proofs.lemmas.Option.{same_Some}
 use Rattle.bk_object.specs.declared.Facts.{Facts}
 use Rattle.bk_object.specs.declared.Slot.{Slot}
 use Rattle.bk_path.specs.Paths.{Path, path_cmp}
@@ -12,9 +13,6 @@ use Rattle.bk_tree.specs.declared.place.Placed.{Placed}
 use Rattle.bk_tree.specs.declared.place.Object.{Object}
 use Rattle.bk_tree.specs.Objects.{Objects, HasSlot, IsAt, facts_of, slot_of}
 use Rattle.bk_tree.specs.Places.{entries_from, tree_of, IsApart}
-
-pub some_same : {A : Type 0} (x y : A) → Some x ≡ Some y → x ≡ y
-some_same x y e = ap (λ o. unwrap_or o x) e
 
 -- paths that tie are one
 pub tied_path : (p q : Path) → eq_by_cmp path_cmp p q ≡ true → p ≡ q
@@ -37,7 +35,7 @@ found-at n (Some object ∷ places) q a h = by (eq_by_cmp path_cmp q object.path
         (find path_cmp q (entries_from (suc n) places) ≡ Some a → (k : ℕ) × (a.slot ≡ suc n + k) × (slice_get places k ≡ Some (Some (record { path = q; facts = a.facts })))) →
         (k : ℕ) × (a.slot ≡ n + k) × (slice_get (Some object ∷ places) k ≡ Some (Some (record { path = q; facts = a.facts })))
     by true tie h rest =
-        let is : placed_at n object ≡ a = some_same (placed_at n object) a h in
+        let is : placed_at n object ≡ a = same_Some (placed_at n object) a h in
         let slot : n ≡ a.slot = ap (λ (x : Placed). x.slot) is in
         let facts : object.facts ≡ a.facts = ap (λ (x : Placed). x.facts) is in
         (0, omega (arith, slot), λ i. Some (Some (record { path = sym (tied_path q object.path tie) i; facts = facts i })))
@@ -52,7 +50,7 @@ at-found n (None ∷ places) (suc k) a apart h =
     let more : suc n + k ≡ n + suc k = omega arith in
     at-found (suc n) places k a (λ i j x y hx hy same. let e = apart (suc i) (suc j) x y hx hy same in omega (arith, e)) h ∙ ap (λ m. Some (placed_at m a)) more
 at-found n (Some object ∷ places) zero a apart h =
-    let is : object ≡ a = some_same object a (some_same (Some object) (Some a) h) in
+    let is : object ≡ a = same_Some object a (same_Some (Some object) (Some a) h) in
     let none : n ≡ n + zero = omega arith in
     ap (λ b. cond b (Some (placed_at n object)) (find path_cmp a.path (entries_from (suc n) places))) (ap (λ (x : Object). eq_by_cmp path_cmp a.path x.path) is ∙ tied-itself a.path)
     ∙ (λ i. Some (placed_at (none i) (is i)))
@@ -87,7 +85,7 @@ pub facts_there : (places seen : List (Option Object)) (m : Objects) (slot : ℕ
     (path : Path) (facts : Facts) → IsAt m path slot facts → x.facts ≡ facts
 facts_there places seen m slot x same view at path facts h =
     let both = sym at ∙ ap (λ xs. slice_get xs slot) same ∙ stands places path slot facts (ap (λ t. get t path) view ∙ h) in
-    ap (λ (o : Object). o.facts) (some_same x (record { path = path; facts = facts }) (some_same (Some x) (Some (record { path = path; facts = facts })) both))
+    ap (λ (o : Object). o.facts) (same_Some x (record { path = path; facts = facts }) (same_Some (Some x) (Some (record { path = path; facts = facts })) both))
 
 -- the slot that is found, if one is
 pub slot_found : (m : Objects) (q : Path) → IfSome (option_map slot_of (get m q)) (λ slot. HasSlot m slot.n)
@@ -111,7 +109,7 @@ found_slot places path slot h = by (find path_cmp path (entries_from 0 places)) 
     by None is h = cc
     by (Some a) is h =
         let (k, slot_is, there) = found-at 0 places path a is in
-        let one : slot.n ≡ a.slot = ap (λ (s : Slot). s.n) (some_same slot (slot_of a) h) in
+        let one : slot.n ≡ a.slot = ap (λ (s : Slot). s.n) (same_Some slot (slot_of a) h) in
         let same : k ≡ slot.n = omega (arith, slot_is, one) in
         (a, is, ap (slice_get places) (sym same) ∙ there)
 
@@ -119,7 +117,7 @@ pub facts_some : (places : List (Option Object)) (path : Path) (slot : Slot) (x 
     slice_get places slot.n ≡ Some (Some x) → Some x.facts ≡ option_map facts_of (get (tree_of places) path)
 facts_some places path slot x found at =
     let (a, is, there) = found_slot places path slot found in
-    let one : x.facts ≡ a.facts = ap (λ (o : Object). o.facts) (some_same x (record { path = path; facts = a.facts }) (some_same (Some x) (Some (record { path = path; facts = a.facts })) (sym at ∙ there))) in
+    let one : x.facts ≡ a.facts = ap (λ (o : Object). o.facts) (same_Some x (record { path = path; facts = a.facts }) (same_Some (Some x) (Some (record { path = path; facts = a.facts })) (sym at ∙ there))) in
     ap Some one ∙ ap (option_map facts_of) (sym (get-from_entries path_total (entries_from 0 places) path ∙ is))
 
 pub facts_none : (places : List (Option Object)) (path : Path) → None ≡ option_map slot_of (find path_cmp path (entries_from 0 places)) → None ≡ option_map facts_of (get (tree_of places) path)
@@ -133,7 +131,7 @@ module _ (places seen : List (Option Object)) (m : Objects) (slot : ℕ) (x : Ob
   pub path_there : (path : Path) (facts : Facts) → IsAt m path slot facts → x.path ≡ path
   path_there path facts h =
       let both = sym at ∙ ap (λ xs. slice_get xs slot) same ∙ stands places path slot facts (ap (λ t. get t path) view ∙ h) in
-      ap (λ (o : Object). o.path) (some_same x (record { path = path; facts = facts }) (some_same (Some x) (Some (record { path = path; facts = facts })) both))
+      ap (λ (o : Object). o.path) (same_Some x (record { path = path; facts = facts }) (same_Some (Some x) (Some (record { path = path; facts = facts })) both))
 
   pub some_there : IsApart places → (other : List (Option Object)) → other ≡ places → IsSome (get (tree_of other) x.path)
   some_there apart other alike =

@@ -4,6 +4,8 @@ use Rattle.std.specs.Prelude.{IsNone}
 use Rattle.std.specs.FinMap.{get, insert, get-insert, get-retain_keys, get-from_entries}
 use Rattle.std.specs.Ordering.{eq_by_cmp}
 use Rattle.std.proofs.lemmas.List.Sums.{sum_by-cons}
+use Rattle.std.proofs.lemmas.Option.{same_Some}
+use Rattle.bk_base.proofs.Distinct.{total_of-from_entries}
 use Rattle.bk_object.specs.declared.Facts.{Facts}
 use Rattle.bk_object.specs.Kinds.{is_directory}
 use Rattle.bk_path.specs.Paths.{Path, path_cmp, is_same}
@@ -12,8 +14,7 @@ use Rattle.bk_quota.specs.Charges.{share_in, used_in}
 use Rattle.bk_tree.specs.declared.place.Placed.{Placed}
 use Rattle.bk_tree.specs.Objects.{Objects, HasNoChild, begun, facts_of, without}
 use Rattle.bk_tree.specs.Kept.{IsClosed, IsKept}
-use Rattle.bk_tree.proofs.Distinct.{total_of-from_entries}
-use Rattle.bk_tree.proofs.Found.{some_same, tied_path}
+use Rattle.bk_tree.proofs.Found.{tied_path}
 use Rattle.bk_tree.proofs.Smaller.{bare, IsSmaller, kept-smaller}
 
 module _ (root : Facts) (some : 1 ≤ root.quota) where
@@ -21,7 +22,7 @@ module _ (root : Facts) (some : 1 ≤ root.quota) where
   alone q a h = by (eq_by_cmp path_cmp q []) refl (sym (get-from_entries path_total (([], record { slot = 0; facts = root }) ∷ []) q) ∙ h)
     where
       by : (b : Bool) → eq_by_cmp path_cmp q [] ≡ b → cond b (Some (record { slot = 0; facts = root })) None ≡ Some a → (q ≡ []) × (root ≡ a.facts)
-      by true tie h = (tied_path q [] tie, ap (λ (x : Placed). x.facts) (some_same (record { slot = 0; facts = root }) a h))
+      by true tie h = (tied_path q [] tie, ap (λ (x : Placed). x.facts) (same_Some (record { slot = 0; facts = root }) a h))
       by false tie h = cc
 
   used_alone : used_in facts_of (begun root) [] ≡ 1
@@ -53,14 +54,14 @@ kept-row m p a b kept there same = kept-smaller changed m closed smaller kept
     smaller q x h = by (eq_by_cmp path_cmp q p) refl (sym (get-insert path_total m p b q) ∙ h)
       where
         by : (t : Bool) → eq_by_cmp path_cmp q p ≡ t → cond t (Some b) (get m q) ≡ Some x → (y : Placed) × (get m q ≡ Some y) × (bare x.facts ≡ bare y.facts)
-        by true tie h = (a, ap (get m) (tied_path q p tie) ∙ there, ap (λ (z : Placed). bare z.facts) (sym (some_same b x h)) ∙ same)
+        by true tie h = (a, ap (get m) (tied_path q p tie) ∙ there, ap (λ (z : Placed). bare z.facts) (sym (same_Some b x h)) ∙ same)
         by false tie h = (x, h, refl)
 
     bigger : (q : Path) (x : Placed) → get m q ≡ Some x → (y : Placed) × (get (insert m p b) q ≡ Some y) × (bare x.facts ≡ bare y.facts)
     bigger q x h = by (eq_by_cmp path_cmp q p) refl (get-insert path_total m p b q)
       where
         by : (t : Bool) → eq_by_cmp path_cmp q p ≡ t → get (insert m p b) q ≡ cond t (Some b) (get m q) → (y : Placed) × (get (insert m p b) q ≡ Some y) × (bare x.facts ≡ bare y.facts)
-        by true tie is = (b, is, ap (λ (z : Placed). bare z.facts) (some_same x a (sym h ∙ ap (get m) (tied_path q p tie) ∙ there)) ∙ sym same)
+        by true tie is = (b, is, ap (λ (z : Placed). bare z.facts) (same_Some x a (sym h ∙ ap (get m) (tied_path q p tie) ∙ there)) ∙ sym same)
         by false tie is = (x, is ∙ h, refl)
 
     closed : IsClosed (insert m p b)

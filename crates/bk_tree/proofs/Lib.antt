@@ -1,7 +1,4 @@
-pub mod IsDistinct
-pub mod Totals
 pub mod Sums
-pub mod Distinct
 pub mod Found
 pub mod Smaller
 pub mod Room

@@ -3,6 +3,7 @@ use Rattle.std.proofs.Common.{◌≡◌, ℕ, ◌+◌, ◌≤◌, Bool, true, fa
 use Rattle.std.specs.Prelude.{sum_by, unwrap_or, option_map, if◌then◌else◌}
 use Rattle.std.specs.FinMap.{FinMap, get, entries, len, len-entries}
 use Rattle.std.specs.Ordering.{eq_by_cmp}
+use Rattle.bk_base.proofs.Totals.{total_of}
 use Rattle.bk_object.specs.declared.Facts.{Facts}
 use Rattle.bk_object.specs.declared.Kind.{Kind}
 use Rattle.bk_object.specs.declared.Kind.TheVariants.{Directory, Segment, Mailbox, Line}
@@ -11,7 +12,6 @@ use Rattle.bk_path.specs.Paths.{Path, path_cmp, is_root}
 use Rattle.bk_path.specs.Orders.{path_total, path_apart, is_same-itself}
 use Rattle.bk_quota.specs.Charges.{charge_of, passes, facts_in, level_in, is_upgraded_in, governing_in, share_in, used_in}
 use Rattle.bk_tree.specs.Needs.{need_by, need_of, needs_in, core_by, blocks_of, blocks_in}
-use Rattle.bk_tree.proofs.Totals.{total_of}
 use Rattle.bk_tree.proofs.Sums.{zeros, ones, plus, swap_sums, found_le, pointwise, only_le}
 use Rattle.bk_tree.proofs.Smaller.{charge_kind, charge_is, charge_by}
 

@@ -6,7 +6,7 @@ use Rattle.std.specs.Ordering.{eq_by_cmp}
 use Rattle.std.specs.Cmp.{IsTotalOrder}
 use Rattle.std.specs.FinMap.{FinMap, IsAntisymmetric, get, entries, find, get-entries, from_sorted, entries-from_sorted, get-from_sorted}
 use Rattle.std.proofs.lemmas.List.Sums.{sum_by-cons}
-use Rattle.bk_tree.proofs.Totals.{part, tied, total_of, total-le}
+use Rattle.bk_base.proofs.Totals.{part, tied, total_of, total-le}
 
 module _ {A : Type 0} where
   pub zeros : (xs : List A) → sum_by (λ (a : A). 0) xs ≡ 0

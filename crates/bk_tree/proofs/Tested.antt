@@ -2,6 +2,7 @@
 use Rattle.std.proofs.Common.{◌≡◌, ℕ, true, [], ◌∷◌, Option, Some, None, Result, Ok, refl, sym, ap, ◌∙◌, subst}
 use Rattle.std.specs.Prelude.{IfOk, IfSome, option_map}
 use Rattle.std.specs.FinMap.{get, get-from_entries}
+use Rattle.std.proofs.lemmas.Option.{same_Some}
 use Rattle.bk_object.specs.declared.Facts.{Facts}
 use Rattle.bk_object.specs.declared.Slot.{Slot}
 use Rattle.bk_object.specs.declared.Kind.TheVariants.{Directory}
@@ -11,7 +12,6 @@ use Rattle.bk_path.specs.Orders.{path_total}
 use Rattle.bk_tree.specs.declared.place.Placed.{Placed}
 use Rattle.bk_tree.specs.Objects.{IsAt, Objects, begun, slot_of}
 use Rattle.bk_tree.specs.Kept.{HasDirectory}
-use Rattle.bk_tree.proofs.Found.{some_same}
 
 root_there : (root : Facts) → is_directory root.kind ≡ true → HasDirectory (begun root) []
 root_there root kind = (record { slot = 0; facts = root }, get-from_entries path_total (([], record { slot = 0; facts = root }) ∷ []) [], kind)
@@ -35,7 +35,7 @@ found_there m path slot held found read = by (get m path) refl found
     by : (o : Option Placed) → get m path ≡ o → Some slot ≡ option_map slot_of o → (n : ℕ) × IsAt m path n held
     by None is h = cc
     by (Some a) is h =
-        let one : slot.n ≡ a.slot = ap (λ (s : Slot). s.n) (some_same slot (slot_of a) h) in
+        let one : slot.n ≡ a.slot = ap (λ (s : Slot). s.n) (same_Some slot (slot_of a) h) in
         let at : IsAt m path slot.n a.facts = is ∙ (λ i. Some (record { slot = sym one i; facts = a.facts })) in
         (slot.n, at ∙ (λ i. Some (record { slot = slot.n; facts = sym (read path a.facts at) i })))
 

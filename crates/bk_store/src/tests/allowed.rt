@@ -1,8 +1,7 @@
 // Calls of a store that ask for their conditions first, and answer None where one doesn't hold.
 
 ghost use Rattle.std.specs.Prelude.{◌≡◌, IsTrue};
-ghost use Rattle.bk_object.specs.Kinds.{is_directory as has_children};
-ghost use Rattle.bk_store.specs.Stored.{is_any_line};
+ghost use Rattle.bk_object.specs.Kinds.{is_directory as has_children, is_any_line};
 ghost use Rattle.bk_tree.specs.Kept.{HasBlocks, HasQuota};
 
 use crate::Store;

@@ -1,6 +1,6 @@
 use Rattle.std.proofs.Common.{◌≡◌, ◌+◌, ◌≤◌, drop}
 use Rattle.std.specs.List.{count_by}
-use Rattle.bk_image.specs.Objects.{is_any_line}
+use Rattle.bk_object.specs.Kinds.{is_any_line}
 use Rattle.bk_image.proofs.quota.line_objects.Given as goal
 
 abbrev pub invariant-loop-object : goal.invariant-loop-object

@@ -1,9 +1,10 @@
 use Rattle.std.proofs.Common.{◌∙◌, sym, ap, is_some}
 use Rattle.std.specs.Prelude.{option_map}
 use Rattle.std.specs.FinMap.{get}
+use Rattle.bk_object.specs.Kinds.{is_segment}
 use Rattle.bk_frames.specs.Extents.{Extent}
 use Rattle.bk_quota.specs.Charges.{passes}
-use Rattle.bk_store.specs.Stored.{Entry, extent_at, extent_in, is_segment}
+use Rattle.bk_store.specs.Stored.{Entry, extent_at, extent_in}
 use Rattle.bk_store.specs.Joined.{entry_of, tables_of}
 use Rattle.bk_store.proofs.Entries.{at_slot, none_at, get-entry}
 use Rattle.bk_store.proofs.Contents.{extent_of_kind, its_blocks, some_mapped}

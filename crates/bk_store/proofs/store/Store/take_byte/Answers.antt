@@ -2,8 +2,9 @@ use Rattle.std.proofs.Common.{◌∙◌, sym, ap, is_some, arith, length, map, l
 use Rattle.std.specs.Prelude.{option_map}
 use Rattle.std.specs.FinMap.{get}
 use Rattle.std.proofs.lemmas.List.{length-map}
+use Rattle.bk_object.specs.Kinds.{is_any_line}
 use Rattle.bk_quota.specs.Charges.{passes}
-use Rattle.bk_store.specs.Stored.{Entry, byte_at, byte_in, byte_of, is_any_line, number_of, without_byte, without_first}
+use Rattle.bk_store.specs.Stored.{Entry, byte_at, byte_in, byte_of, number_of, without_byte, without_first}
 use Rattle.bk_store.specs.Joined.{bytes_of, entries_of, entry_of, queue_at, store_of, tables_of, waiting_of}
 use Rattle.bk_store.proofs.Entries.{at_slot, get-entry, kind_is, some_slot, there}
 use Rattle.bk_store.proofs.Waits.{inputs-kept, line-changed, line_inside, line_kind, some_number}

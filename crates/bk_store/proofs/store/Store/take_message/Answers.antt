@@ -2,11 +2,13 @@ use Rattle.std.proofs.Common.{◌∙◌, sym, ap, arith, length, map, length-set
 use Rattle.std.specs.Prelude.{option_map}
 use Rattle.std.specs.FinMap.{get}
 use Rattle.std.proofs.lemmas.List.{length-map}
+use Rattle.bk_object.specs.Kinds.{is_mailbox}
+use Rattle.bk_object.proofs.KindLemmas.{mailbox_kind}
 use Rattle.bk_quota.specs.Charges.{passes}
-use Rattle.bk_store.specs.Stored.{Entry, is_mailbox, message_at, message_in, message_of, received, without_message}
+use Rattle.bk_store.specs.Stored.{Entry, message_at, message_in, message_of, received, without_message}
 use Rattle.bk_store.specs.Joined.{bytes_of, entries_of, entry_of, no_mail, queue_at, store_of, tables_of, waiting_of}
 use Rattle.bk_store.proofs.Entries.{at_slot, get-entry, its_slot, kind_is, some_slot, there}
-use Rattle.bk_store.proofs.Waits.{mail-changed, mailbox_kind, mailboxes-kept}
+use Rattle.bk_store.proofs.Waits.{mail-changed, mailboxes-kept}
 use Rattle.bk_store.proofs.store.Store.take_message.Goals as goal
 
 pub unwrap-slot-requires : goal.unwrap-slot-requires

@@ -5,8 +5,8 @@ use Rattle.std.specs.Cmp.{IsTotalOrder, eq_by_cmp_equiv}
 use Rattle.std.specs.FinMap.{IsAntisymmetric, find, entries, from_entries, get-from_entries, len-empty, len-entries}
 use Rattle.std.specs.FinMap.Entries.{where_key, find-where_key, find-append}
 use Rattle.std.proofs.lemmas.List.Sums.{sum_by-cons}
-use Rattle.bk_frames.specs.Maps.{IsDistinct}
-use Rattle.bk_frames.proofs.Totals.{total_of, total-insert}
+use Rattle.bk_base.specs.Maps.{IsDistinct}
+use Rattle.bk_base.proofs.Totals.{total_of, total-insert}
 
 module _ {K X : Type 0} (R : K → K → Ordering) (apart : IsAntisymmetric R) (laws : IsTotalOrder R) where
   -- the sum over a map that is made of a list in which no key stands twice

@@ -1,14 +1,12 @@
--- What a map has after each value changed.
-use Rattle.std.proofs.Common.{◌≡◌, Bool, true, false, ◌&&◌, cond, List, [], ◌∷◌, map, Some, refl, sym, ap, ◌∙◌, subst, T, Ordering, is_lt}
+-- What a map has after each value changed, and the sum over it.
+use Rattle.std.proofs.Common.{◌≡◌, ℕ, Bool, true, false, ◌&&◌, cond, List, [], ◌∷◌, map, Some, refl, sym, ap, ◌∙◌, subst, arith, T, Ordering, is_lt}
 use Rattle.std.specs.Prelude.{option_map}
 use Rattle.std.specs.Ordering.{eq_by_cmp}
-use Rattle.std.specs.FinMap.{FinMap, get, entries, entries_sorted, find, is_sorted, get-entries, get-from_sorted}
+use Rattle.std.specs.FinMap.{FinMap, get, entries, entries_sorted, entries-from_sorted, find, is_sorted, get-entries, get-from_sorted}
 use Rattle.std.specs.FinMap.Entries.{below_all}
-use Rattle.bk_frames.specs.Maps.{map_values}
-use Rattle.bk_frames.proofs.Totals.{total_of}
 use Rattle.std.proofs.lemmas.List.Sums.{sum_by-cons}
-use Rattle.std.specs.FinMap.{entries-from_sorted}
-use Rattle.std.proofs.Common.{ℕ, arith}
+use Rattle.bk_base.specs.Maps.{map_values}
+use Rattle.bk_base.proofs.Totals.{total_of}
 
 module _ {K X Y : Type 0} (R : K → K → Ordering) (f : X → Y) where
   abbrev pub each : List (K × X) → List (K × Y)
