@@ -1,7 +1,6 @@
 -- The words of a segment, as the state that a call sees.
 use Rattle.std.proofs.Common.{◌≡◌, ℕ, ◌*◌, Bool, List, Option, Some, None, refl, sym, ap, ◌∙◌}
 use Rattle.std.specs.Prelude.{not, nat_lt}
-use Rattle.std.specs.FinMap as finite
 use Rattle.bk_path.specs.Paths.{Path}
 use Rattle.bk_object.specs.declared.Facts.{Facts}
 use Rattle.bk_quota.specs.Charges.{passes}

@@ -6,8 +6,6 @@ use Rattle.std.proofs.lemmas.Option.{same_Some}
 use Rattle.bk_path.specs.Paths.{Path}
 use Rattle.bk_frames.specs.Extents.{Extent}
 use Rattle.bk_object.specs.declared.Facts.{Facts}
-use Rattle.bk_object.specs.declared.kind.Kind.{Kind}
-use Rattle.bk_object.specs.declared.kind.Kind.TheVariants.{Directory, Segment, Mailbox, Line}
 use Rattle.bk_object.specs.Kinds.{is_mailbox}
 use Rattle.bk_object.proofs.KindLemmas.{mailbox_kind}
 use Rattle.bk_queue.specs.declared.mailbox.Message.{Message}
