@@ -56,3 +56,6 @@ ended-more at before slots (b ∷ more) some =
           → ended at before slots (cond c ([] ∷ slice_split (λ b. b == 10) more) (onto_first b (slice_split (λ b. b == 10) more))) ≡ fault at kind.After
       by true part parts e = rw e refl
       by false part parts e = rw e refl
+
+-- the end of a script by what follows its END line
+pub ruleset end_lemmas = (ended-nothing, ended-more)

@@ -1,5 +1,5 @@
 -- Where a reader of a script stands, and what each kind of next line makes of the script.
-use Rattle.std.proofs.Common.{◌≡◌, ◌≢◌, ℕ, ◌+◌, ◌≤◌, List, [], ◌∷◌, ◌++◌, length, Some, None, Ok, Err, sym, ap, ◌∙◌}
+use Rattle.std.proofs.Common.{◌≡◌, ℕ, ◌+◌, ◌≤◌, List, [], ◌∷◌, ◌++◌, length, Some, None, Ok, Err, sym, ap, ◌∙◌}
 use Rattle.std.specs.Prelude.{Option, Result, ◌==◌}
 use Rattle.std.specs.List.{slice_split}
 use Rattle.bk_system.specs.declared.TypedAt.{TypedAt}
@@ -9,7 +9,7 @@ use Rattle.bk_script.specs.declared.line.Line.{Line}
 use Rattle.bk_script.specs.declared.line.Line.TheVariants.{Record, Ends}
 use Rattle.bk_script.specs.Fault.{fault, first_failing, ◌>>=◌}
 use Rattle.bk_script.specs.Lines.{line_of, record_checks, end_checks, ended, line_at, lines_at, script_of}
-use Rattle.bk_script.proofs.Parts.{lines_at-cut, ended-nothing, ended-more, script_of-short}
+use Rattle.bk_script.proofs.Parts.{lines_at-cut, script_of-short}
 
 -- before the line numbered at, after the records that were read, with the rest of the bytes
 pub record Stands (lines turns at : ℕ) (bytes rest : List ℕ) (before : List TypedAt) : Type 0 where
@@ -73,21 +73,9 @@ end_refused {lines} {turns} {at} {bytes} {rest} {text} {more} {before} {slots} s
     next_line stands next ∙ ap (λ r. r >>= (λ passed. ended (at + 1) before slots (slice_split (λ b. b == 10) more))) bad
 
 -- the END line stands, and then what follows counts
-end_taken : {lines turns at : ℕ} {bytes rest text more : List ℕ} {before : List TypedAt} {slots : ℕ}
+pub end_taken : {lines turns at : ℕ} {bytes rest text more : List ℕ} {before : List TypedAt} {slots : ℕ}
     → Stands lines turns at bytes rest before → Next rest text more (Some (Ends slots))
     → first_failing at (end_checks turns before slots) ≡ Ok tt
     → script_of lines turns bytes ≡ ended (at + 1) before slots (slice_split (λ b. b == 10) more)
 end_taken {lines} {turns} {at} {bytes} {rest} {text} {more} {before} {slots} stands next good =
     next_line stands next ∙ ap (λ r. r >>= (λ passed. ended (at + 1) before slots (slice_split (λ b. b == 10) more))) good
-
-pub ends : {lines turns at : ℕ} {bytes rest text more : List ℕ} {before : List TypedAt} {slots : ℕ}
-    → Stands lines turns at bytes rest before → Next rest text more (Some (Ends slots))
-    → first_failing at (end_checks turns before slots) ≡ Ok tt → length more ≡ 0 → script_of lines turns bytes ≡ Ok (before, slots)
-ends {at = at} {more = more} {before = before} {slots = slots} stands next good none =
-    end_taken stands next good ∙ ended-nothing (at + 1) before slots more none
-
-pub something_after : {lines turns at : ℕ} {bytes rest text more : List ℕ} {before : List TypedAt} {slots : ℕ}
-    → Stands lines turns at bytes rest before → Next rest text more (Some (Ends slots))
-    → first_failing at (end_checks turns before slots) ≡ Ok tt → length more ≢ 0 → script_of lines turns bytes ≡ fault (at + 1) kind.After
-something_after {at = at} {more = more} {before = before} {slots = slots} stands next good some =
-    end_taken stands next good ∙ ended-more (at + 1) before slots more some

@@ -1,7 +1,7 @@
 ghost use Rattle.std.specs.Prelude.{◌≡◌, ◌+◌, ◌==◌, ◌<◌, ◌≤◌, ◌^◌, length, Ok, IfOk, IfErr};
 ghost use Rattle.std.specs.List.{slice_split};
 ghost use Rattle.bk_script.specs.Fault.{first_failing};
-ghost use Rattle.bk_script.specs.Lines.{follows, is_below, last, record_checks, end_checks, script_of};
+ghost use Rattle.bk_script.specs.Lines.{follows, is_below, last, record_checks, end_checks, ended, script_of};
 ghost use Rattle.bk_script.specs.Script.{Gives, IsScript, Refuses, text_of};
 
 use crate::fault::{ScriptFault, ScriptKind, ScriptStop};
@@ -83,6 +83,17 @@ fn bad(line: u32, kind: ScriptKind) -> ScriptStop
     ScriptStop::Bad(ScriptFault { line, kind })
 }
 
+// The script after its END line: nothing follows, or the line numbered `at` is one too many.
+#[tactic(auto, using(crate::proofs::Parts::end_lemmas))]
+fn ended(at: u32, typed: TypedList, slots: u32, more: &[u8]) -> Result<Script, ScriptStop>
+    ensures { Gives result (ended at typed slots (slice_split (λ b. b == 10) more.now)) }
+{
+    if !more.is_empty() {
+        return Err(bad(at, ScriptKind::After));
+    }
+    Ok(Script { slots, typed })
+}
+
 fn read_lines(alloc: Global, bytes: &[u8], lines: u8, turns: u16) -> Result<Script, ScriptStop>
     ensures { Gives result (script_of lines turns bytes.now) }
 {
@@ -111,14 +122,7 @@ fn read_lines(alloc: Global, bytes: &[u8], lines: u8, turns: u16) -> Result<Scri
             }
             Some(Line::Ends(slots)) => {
                 check_end(at, turns, &typed, slots)?;
-                return if more.is_empty() {
-                    Ok(Script {
-                        slots,
-                        typed: TypedList::from_vec(typed),
-                    })
-                } else {
-                    Err(bad(at + 1, ScriptKind::After))
-                };
+                return ended(at + 1, TypedList::from_vec(typed), slots, more);
             }
         }
         at += 1;

@@ -1,11 +1,11 @@
-use Rattle.std.proofs.Common.{◌≡◌, ◌≢◌, Some, None, Ok, Err, length, sym, ap, ◌∙◌, arith}
-use Rattle.std.proofs.lemmas.Bool.Decides.{nat_tests}
+use Rattle.std.proofs.Common.{◌≡◌, Some, None, Ok, Err, sym, ap, ◌∙◌, arith, subst}
 use Rattle.std.proofs.lemmas.Result.{err_from_is_err_and}
 use Rattle.bk_script.specs.declared.line.Line.TheVariants.{Record, Ends}
 use Rattle.bk_script.specs.Fault.{first_failing}
 use Rattle.bk_script.specs.Lines.{record_checks, end_checks}
+use Rattle.bk_script.specs.Script.{Gives}
 use Rattle.bk_script.proofs.Parts.{script_of-long}
-use Rattle.bk_script.proofs.Reader.{Stands, Next, others, none_left, neither, record_refused, record_taken, end_refused, ends, something_after}
+use Rattle.bk_script.proofs.Reader.{Stands, Next, others, none_left, neither, record_refused, record_taken, end_refused, end_taken}
 use Rattle.bk_script.proofs.reading.read_lines.Goals as goal
 
 pub returns-then-bytes-gt1048576 : goal.returns-then-bytes-gt1048576
@@ -41,27 +41,15 @@ returns-in_err-check_end-in-Some-Ends c =
     let p = err_from_is_err_and c.from_residual-in_err-check_end-in-Some-Ends.result c.from_residual-in_err-check_end-in-Some-Ends.ensures.1 in
     rw (p.1, p.2) (end_refused stands next checked)
 
-pub returns-then-is_empty : goal.returns-then-is_empty
-returns-then-is_empty c =
+pub returns-in-Some-Ends : goal.returns-in-Some-Ends
+returns-in-Some-Ends c =
     let stands : Stands c.args.lines c.args.turns c.loop-text.at c.args.bytes.now c.loop-text.rest.now c.loop-text.typed.items =
     record { short = omega arith; same = c.loop-text.invariant.same } in
     let next : Next c.loop-text.rest.now c.in-Some.text.now c.in-Some.more.now (Some (Ends c.in-Some-Ends.slots)) =
     record { found = c.in-Some.ensures.found; says = sym c.in_ok-read_line.ensures ∙ c.in-Some-Ends.is ∙ ap Some c.in-Some-Ends.field-0-is } in
     let checked : first_failing c.loop-text.at (end_checks c.args.turns c.loop-text.typed.items c.in-Some-Ends.slots) ≡ Ok tt =
     rw (← c.deref-in-Some-Ends.ensures.value) (sym c.check_end.ensures ∙ c.in_ok-check_end-in-Some-Ends.was) in
-    let nothing : length c.in-Some.more.now ≡ 0 = grind (arith, nat_tests, sym c.is_empty.ensures ∙ c.if-is_empty.true) in
-    rw c.from_vec.ensures (ends stands next checked nothing)
-
-pub returns-else-is_empty : goal.returns-else-is_empty
-returns-else-is_empty c =
-    let stands : Stands c.args.lines c.args.turns c.loop-text.at c.args.bytes.now c.loop-text.rest.now c.loop-text.typed.items =
-    record { short = omega arith; same = c.loop-text.invariant.same } in
-    let next : Next c.loop-text.rest.now c.in-Some.text.now c.in-Some.more.now (Some (Ends c.in-Some-Ends.slots)) =
-    record { found = c.in-Some.ensures.found; says = sym c.in_ok-read_line.ensures ∙ c.in-Some-Ends.is ∙ ap Some c.in-Some-Ends.field-0-is } in
-    let checked : first_failing c.loop-text.at (end_checks c.args.turns c.loop-text.typed.items c.in-Some-Ends.slots) ≡ Ok tt =
-    rw (← c.deref-in-Some-Ends.ensures.value) (sym c.check_end.ensures ∙ c.in_ok-check_end-in-Some-Ends.was) in
-    let something : length c.in-Some.more.now ≢ 0 = grind (arith, nat_tests, sym c.is_empty.ensures ∙ c.if-is_empty.false) in
-    rw c.bad-else-is_empty.ensures (something_after stands next checked something)
+    subst (Gives c.ended.result) (sym (end_taken stands next checked)) (rw (← c.from_vec.ensures) c.ended.ensures)
 
 pub loop-text-preserved : goal.loop-text-preserved
 loop-text-preserved c =
