@@ -81,6 +81,23 @@ pub(crate) fn hold(store: &mut Store, subject: u8, path: Path, modes: Modes) -> 
     Some(())
 }
 
+pub(crate) fn release(store: &mut Store, subject: u8, path: Path, modes: Modes) -> Option<()> {
+    if subject >= 32 {
+        return None;
+    }
+    store.release(subject, path, modes);
+    Some(())
+}
+
+pub(crate) fn give(store: &mut Store, path: Path, subject: u8, modes: Modes) -> Option<()> {
+    store.facts(path)?;
+    if subject >= 32 {
+        return None;
+    }
+    store.give(path, subject, modes);
+    Some(())
+}
+
 pub(crate) fn rescind(store: &mut Store, path: Path, subject: u8, modes: Modes) -> Option<()> {
     store.facts(path)?;
     if subject >= 32 {

@@ -1,18 +1,22 @@
 // A long list of calls, compared after each with the plain model.
 
 use super::allowed::{
-    cell, create, delete_group, hold, put_message, rescind, take_message, word, write_word,
+    cell, create, delete_group, give, hold, put_message, release, rescind, take_message, word,
+    write_word,
 };
 use super::plain::{Plain, charge, find, governing, level, new_plain, used};
 use super::{begun, facts_of};
 use crate::Store;
 use bitflags::Flags;
 use bk_core::Core;
-use bk_object::{Kind, Modes};
+use bk_object::{Kind, Modes, Row};
 use bk_path::Path;
 use bk_queue::Message;
 use bk_tree::TreeNo;
 use std::test::Fail;
+
+// The subjects that are granted and hold anything; the others of the 32 take no part.
+const SUBJECTS: [u8; 4] = [0, 1, 15, 31];
 
 // A directory, one of another level, a segment or a mailbox: its kind, blocks, level and quota below that level.
 fn wish(n: u32, above: u8) -> (Kind, u8, u8, u16) {
@@ -49,8 +53,7 @@ fn agrees(store: &Store, core: &Core, objects: &[Plain], object: &Plain) -> Opti
         && facts.blocks == object.blocks
         && facts.level == object.level
         && facts.quota == object.quota
-        && store.held(0, object.path).bits() == object.held[0]
-        && store.held(1, object.path).bits() == object.held[1];
+        && is_granted_and_held(store, object, facts.row);
     match object.kind {
         Kind::Directory => {
             let payer = governing(objects, object.path);
@@ -68,12 +71,23 @@ fn agrees(store: &Store, core: &Core, objects: &[Plain], object: &Plain) -> Opti
     }
 }
 
-// Whether the last word of the segment is the model's, and all others are zero.
+// Whether each of the 32 subjects is granted the object, and holds it, by the model's modes.
+fn is_granted_and_held(store: &Store, object: &Plain, row: Row) -> bool {
+    let mut same = true;
+    for subject in 0..32u8 {
+        let place = usize::from(subject);
+        same = same
+            && row.get(subject).bits() == object.row[place]
+            && store.held(subject, object.path).bits() == object.held[place];
+    }
+    same
+}
+
+// Whether each word of the segment is the model's.
 fn has_words(store: &Store, core: &Core, object: &Plain) -> Option<bool> {
-    let last = u16::from(object.blocks) * 32;
-    for n in 0..last {
-        let want = if n + 1 == last { object.word } else { 0 };
-        if word(store, core, object.path, n * 2)? != want {
+    for n in 0..u16::from(object.blocks) * 32 {
+        let want = object.words.get(usize::from(n))?;
+        if word(store, core, object.path, n * 2)? != *want {
             return Some(false);
         }
     }
@@ -117,85 +131,19 @@ fn step(
     if count == 0 {
         return None;
     }
-    let object = objects.get((n / 16) as usize % count)?;
-    let path = object.path;
-    let subject = (n / 1024 % 2) as u8;
-    let modes = Modes::from_bits_retain((n / 2048 % 16) as u8);
+    let place = (n / 16) as usize % count;
+    let object = *objects.get(place)?;
     match n % 16 {
-        0..=4 => step_create(store, core, objects, path, n / 1024),
-        5 => {
-            let below_root = path.depth() > 0;
-            if below_root {
-                objects.retain(|object| !object.path.is_inferior(path));
-            }
-            Some(delete_group(store, path).is_some() == below_root)
+        0 => Some(step_delete(store, objects, object.path)),
+        1..=8 => step_modes(store, objects.get_mut(place)?, n / 1024),
+        _ if object.kind == Kind::Directory => {
+            step_create(store, core, objects, object.path, n / 1024)
         }
-        6 | 7 => {
-            let there = find(objects, path).is_some();
-            for object in objects.iter_mut() {
-                if object.path == path && subject == 0 {
-                    object.held[0] |= modes.bits();
-                }
-                if object.path == path && subject == 1 {
-                    object.held[1] |= modes.bits();
-                }
-            }
-            Some(hold(store, subject, path, modes).is_some() == there)
+        _ if object.kind == Kind::Segment => {
+            step_write(store, core, objects.get_mut(place)?, n / 1024, number)
         }
-        8 => {
-            let there = find(objects, path).is_some();
-            for object in objects.iter_mut() {
-                if object.path == path && subject == 0 {
-                    object.held[0] &= 15 - modes.bits() % 16;
-                }
-                if object.path == path && subject == 1 {
-                    object.held[1] &= 15 - modes.bits() % 16;
-                }
-            }
-            Some(rescind(store, path, subject, modes).is_some() == there)
-        }
-        9 | 10 => {
-            let segment = match find(objects, path) {
-                Some(object) if object.kind == Kind::Segment => object.blocks,
-                _ => 0,
-            };
-            for object in objects.iter_mut() {
-                if object.path == path && segment > 0 {
-                    object.word = number;
-                }
-            }
-            let offset = (u16::from(segment) * 64).saturating_sub(2);
-            Some(write_word(store, core, path, offset, number).is_some() == (segment > 0))
-        }
-        11..=14 => {
-            let there = is_mailbox(objects, path);
-            let message = match find(objects, path) {
-                Some(object) => object.oldest.wrapping_add(object.waiting),
-                None => 0,
-            };
-            for object in objects.iter_mut() {
-                if object.path == path && there && object.waiting < 16 {
-                    object.waiting = object.waiting.saturating_add(1);
-                } else if object.path == path && there {
-                    object.lost = object.lost.saturating_add(1);
-                }
-            }
-            Some(put_message(store, path, [message, 1, 2, 3]).is_some() == there)
-        }
-        _ => {
-            let want = waiting_message(objects, path);
-            for object in objects.iter_mut() {
-                if object.path == path && want.is_some() {
-                    object.waiting = object.waiting.saturating_sub(1);
-                    object.oldest = object.oldest.wrapping_add(1);
-                    object.lost = 0;
-                }
-            }
-            match take_message(store, path) {
-                None => Some(!is_mailbox(objects, path)),
-                Some(message) => Some(is_mailbox(objects, path) && message == want),
-            }
-        }
+        _ if n / 1024 % 4 > 0 => Some(step_put(store, objects.get_mut(place)?)),
+        _ => Some(step_take(store, objects.get_mut(place)?)),
     }
 }
 
@@ -221,23 +169,94 @@ fn step_create(
     Some(made == want)
 }
 
-// The oldest message of the mailbox at the path.
-fn waiting_message(objects: &[Plain], path: Path) -> Option<Message> {
-    let object = find(objects, path)?;
-    if object.kind != Kind::Mailbox || object.waiting == 0 {
+// The object and its inferiors go, unless it is root.
+fn step_delete(store: &mut Store, objects: &mut Vec<Plain>, path: Path) -> bool {
+    if path.depth() == 0 {
+        return delete_group(store, path).is_none();
+    }
+    objects.retain(|object| !object.path.is_inferior(path));
+    delete_group(store, path).is_some() && store.facts(path).is_none()
+}
+
+// One of the subjects that take part is granted modes of the object, holds it by them, loses or releases them.
+fn step_modes(store: &mut Store, object: &mut Plain, n: u32) -> Option<bool> {
+    let subject = *SUBJECTS.get((n % 4) as usize)?;
+    let bits = (n / 4 % 16) as u8;
+    let modes = Modes::from_bits_retain(bits);
+    let place = usize::from(subject);
+    if place >= 32 {
+        return None;
+    }
+    let done = match n / 64 % 8 {
+        0 | 1 => {
+            object.row[place] |= bits;
+            give(store, object.path, subject, modes)
+        }
+        2..=4 => {
+            object.held[place] |= bits;
+            hold(store, subject, object.path, modes)
+        }
+        5 | 6 => {
+            object.row[place] &= !bits;
+            object.held[place] &= !bits;
+            rescind(store, object.path, subject, modes)
+        }
+        _ => {
+            object.held[place] &= !bits;
+            release(store, subject, object.path, modes)
+        }
+    };
+    Some(done.is_some())
+}
+
+// A word of the segment, at a place by a number, becomes another.
+fn step_write(
+    store: &Store,
+    core: &mut Core,
+    object: &mut Plain,
+    n: u32,
+    value: u16,
+) -> Option<bool> {
+    if object.blocks == 0 {
+        return None;
+    }
+    let place = (n % (u32::from(object.blocks) * 32)) as u16;
+    let word = object.words.get_mut(usize::from(place))?;
+    *word = value;
+    Some(write_word(store, core, object.path, place * 2, value).is_some())
+}
+
+// The next message goes to the mailbox.
+fn step_put(store: &mut Store, object: &mut Plain) -> bool {
+    let message = object.oldest.wrapping_add(object.waiting);
+    if object.waiting < 16 {
+        object.waiting += 1;
+    } else {
+        object.lost = object.lost.saturating_add(1);
+    }
+    put_message(store, object.path, [message, 1, 2, 3]).is_some()
+}
+
+// The oldest message is taken from the mailbox.
+fn step_take(store: &mut Store, object: &mut Plain) -> bool {
+    let want = oldest_message(object);
+    if want.is_some() {
+        object.waiting = object.waiting.saturating_sub(1);
+        object.oldest = object.oldest.wrapping_add(1);
+        object.lost = 0;
+    }
+    take_message(store, object.path) == Some(want)
+}
+
+// The oldest message of a mailbox.
+fn oldest_message(object: &Plain) -> Option<Message> {
+    if object.waiting == 0 {
         return None;
     }
     Some(Message {
         words: [object.oldest, 1, 2, 3],
         lost: object.lost,
     })
-}
-
-fn is_mailbox(objects: &[Plain], path: Path) -> bool {
-    match find(objects, path) {
-        Some(object) => object.kind == Kind::Mailbox,
-        None => false,
-    }
 }
 
 #[test]
@@ -250,7 +269,7 @@ fn agrees_with_a_plain_model(rt: HostRuntime) -> Result<(), Fail> {
         .ok()
         .ok_or("memory")?;
     let mut n = 1u32;
-    for number in 0..400u16 {
+    for number in 0..2_000u16 {
         n = n.wrapping_mul(1_664_525).wrapping_add(1_013_904_223);
         let same = step(&mut store, &mut core, &mut objects, n / 4096, number);
         assert_eq!(rt; same, Some(true), "call {number}");

@@ -3,8 +3,9 @@
 use bk_object::Kind;
 use bk_path::Path;
 
-// An object; of a segment the last word, all others being zero; of a mailbox the number of the oldest message, how many
-// wait, numbered on from it, and how many were lost; the modes by which subjects 0 and 1 hold it.
+// An object: of a segment, which has at most 3 blocks, the words; of a mailbox the number of the oldest message, how many
+// wait, numbered on from it, and how many were lost; and for each subject the modes that it is granted, and those by which
+// it holds the object.
 #[derive(Clone, Copy)]
 pub(crate) struct Plain {
     pub(crate) path: Path,
@@ -12,14 +13,15 @@ pub(crate) struct Plain {
     pub(crate) blocks: u8,
     pub(crate) level: u8,
     pub(crate) quota: u16,
-    pub(crate) word: u16,
+    pub(crate) words: [u16; 96],
     pub(crate) oldest: u16,
     pub(crate) waiting: u16,
     pub(crate) lost: u16,
-    pub(crate) held: [u8; 2],
+    pub(crate) row: [u8; 32],
+    pub(crate) held: [u8; 32],
 }
 
-// A new object, of which nobody holds anything.
+// A new object, which grants nobody anything, and of which nobody holds anything.
 pub(crate) fn new_plain(path: Path, kind: Kind, blocks: u8, level: u8, quota: u16) -> Plain {
     Plain {
         path,
@@ -27,11 +29,12 @@ pub(crate) fn new_plain(path: Path, kind: Kind, blocks: u8, level: u8, quota: u1
         blocks,
         level,
         quota,
-        word: 0,
+        words: [0; 96],
         oldest: 0,
         waiting: 0,
         lost: 0,
-        held: [0, 0],
+        row: [0; 32],
+        held: [0; 32],
     }
 }
 
