@@ -5,7 +5,7 @@ mod refusals;
 
 use crate::Answer::{No, Unknown, Yes};
 use crate::LineByte;
-use fixture::{ask, begun, switch};
+use fixture::{ask, begun, held, sample, switch};
 
 // The words of paths of one entry and of two, the first of them 1.
 const ROOT: u16 = 0o000000;
@@ -197,6 +197,79 @@ fn reads_and_writes_a_line(rt: HostRuntime) {
     );
 }
 
+// The second subject deletes and rescinds below `/1`, a directory of its own level, of which the first one, whose current level
+// is lower, can't come to hold anything. What the first one holds is below root, and there the second does neither.
+#[test]
+fn takes_nothing_from_a_lower_subject(rt: HostRuntime) {
+    let mut system = begun(rt.alloc()).expect(&rt, "memory");
+    // The caller, its greatest and its current level, the call, and by what modes the first subject then holds `/0`.
+    let rows = [
+        (0, 0, 0, 0o10, [0, CHILD_0, 0, 0o401, 1, 0], Yes, 0), // a segment of level 1
+        (0, 0, 0, 0o6, [0, CHILD_0, 0, 15, 0, 0], Yes, 0),
+        (0, 0, 0, 0o6, [0, CHILD_0, 0, 15, 1, 0], Yes, 0),
+        (0, 0, 0, 0o2, [0, CHILD_0, 0, 0, 0, 0], Yes, 8),
+        (0, 0, 0, 0o10, [0, CHILD_1, 0, 0, 1, 5], Yes, 8), // a directory of level 1
+        (0, 0, 0, 0o6, [0, CHILD_1, 0, 5, 0, 0], Yes, 8),
+        (0, 0, 0, 0o6, [0, CHILD_1, 0, 5, 1, 0], Yes, 8),
+        (1, 1, 1, 0o4, [0, CHILD_1, 0, 0, 0, 0], Yes, 8),
+        (1, 1, 1, 0o10, [0, BELOW_1[0], 0, 0o401, 1, 0], Yes, 8),
+        (1, 1, 1, 0o6, [0, BELOW_1[0], 0, 15, 0, 0], Yes, 8),
+        // The first subject, and one with a higher greatest level too, holds nothing at `/1` or below it.
+        (0, 0, 0, 0o1, [0, CHILD_1, 0, 0, 0, 0], No(2), 8),
+        (0, 0, 0, 0o4, [0, CHILD_1, 0, 0, 0, 0], No(2), 8),
+        (0, 0, 0, 0o2, [0, BELOW_1[0], 0, 0, 0, 0], Unknown(22), 8),
+        (0, 1, 0, 0o1, [0, CHILD_1, 0, 0, 0, 0], No(3), 8),
+        (0, 1, 0, 0o4, [0, CHILD_1, 0, 0, 0, 0], No(3), 8),
+        (0, 1, 0, 0o2, [0, BELOW_1[0], 0, 0, 0, 0], Unknown(22), 8),
+        // The second subject, on what the first one holds.
+        (1, 1, 1, 0o4, [0, CHILD_0, 0, 0, 0, 0], Yes, 8),
+        (1, 1, 1, 0o7, [0, CHILD_0, 0, 8, 0, 0], No(4), 8),
+        (1, 1, 1, 0o11, [0, CHILD_0, 0, 0, 0, 0], No(4), 8),
+        (1, 1, 1, 0o7, [0, CHILD_1, 0, 8, 0, 0], Unknown(23), 8),
+        (1, 1, 1, 0o11, [0, CHILD_1, 0, 0, 0, 0], No(4), 8),
+        // And below the directory of its level.
+        (1, 1, 1, 0o7, [0, BELOW_1[0], 0, 15, 0, 0], Yes, 8),
+        (1, 1, 1, 0o11, [0, BELOW_1[0], 0, 0, 0, 0], Yes, 8),
+        (0, 0, 0, 0o14, [0, CHILD_0, 0, 0, 0o123, 0], Yes, 8),
+    ];
+    for (caller, f_s, f_c, number, general, answer, modes) in rows {
+        switch(&mut system, caller, f_s, f_c);
+        let told = ask(&mut system, number, general);
+        assert_eq!(rt; told, Some(answer), "call {number} by {caller}");
+        for (path, modes) in [(ROOT, 5), (CHILD_0, modes), (CHILD_1, 0), (BELOW_1[0], 0)] {
+            assert_eq!(rt;
+                held(&system, 0, path),
+                Some(modes),
+                "after call {number} by {caller}"
+            );
+        }
+    }
+}
+
+// The second subject of the sample, at level 1.
+#[test]
+fn tells_a_subject_of_the_sample(rt: HostRuntime) {
+    let mut system = sample(rt.alloc()).expect(&rt, "memory");
+    switch(&mut system, 1, 1, 1);
+    let rows = [
+        (0o21, [0, ROOT, 0, 2, 0, 0], Yes, [0, 0, 0o1401, 1, 4, 4]),
+        (0o21, [0, ROOT, 0, 5, 0, 0], No(9), [1, 9, 0, 5, 0, 0]),
+        (0o23, [0, ROOT, 0, 0, 0, 0], Yes, [0, 0, 0o20, 4, 0, 0]),
+        (0o22, [7, 7, 7, 7, 7, 7], Yes, [0, 0, 1, 1, 1, 7]),
+        (0o21, [0, ROOT, 0, 0, 0, 0], Yes, [0, 0, 0o401, 0, 2, 3]),
+        (0o21, [0, ROOT, 0, 1, 0, 0], Yes, [0, 0, 0o1400, 0, 0, 0]),
+    ];
+    for (number, general, answer, after) in rows {
+        let told = ask(&mut system, number, general);
+        assert_eq!(rt; told, Some(answer), "call {number}");
+        assert_eq!(rt;
+            system.process.registers.general,
+            after,
+            "after call {number}"
+        );
+    }
+}
+
 // A directory whose level is its parent's keeps no quota: a new one of 16 fits, and is governed by root's cell.
 #[test]
 fn tells_of_children_and_cells(rt: HostRuntime) {
@@ -210,10 +283,7 @@ fn tells_of_children_and_cells(rt: HostRuntime) {
             [0, 0, 0, 0o401, 0, 0],
         ),
         (0, 0o10, [0, CHILD_1, 0, 0, 0, 16], Yes, [0, 0, 0, 0, 0, 16]),
-        (1, 0o21, [0, ROOT, 0, 2, 0, 0], Yes, [0, 0, 0o1401, 1, 4, 4]),
-        (1, 0o21, [0, ROOT, 0, 5, 0, 0], No(9), [1, 9, 0, 5, 0, 0]),
         (1, 0o23, [0, ROOT, 0, 0, 0, 0], Yes, [0, 0, 0o20, 4, 0, 0]),
-        (1, 0o22, [7, 7, 7, 7, 7, 7], Yes, [0, 0, 1, 1, 1, 7]),
         (0, 0o6, [0, CHILD_1, 0, 1, 0, 0], Yes, [0, 0, 0, 1, 0, 0]),
         (0, 0o1, [0, CHILD_1, 0, 0, 0, 0], Yes, [0, 0, 0, 0, 0, 0]),
         (
