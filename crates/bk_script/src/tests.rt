@@ -47,21 +47,81 @@ fn reads_records_and_slots(rt: HostRuntime) -> Result<(), Fail> {
 #[test]
 fn refuses_with_the_first_fault(rt: HostRuntime) -> Result<(), Fail> {
     let image = image(rt.alloc(), 4096);
-    let rows: [(&[u8], u32, ScriptKind); 9] = [
-        (b"1 0 61\n0 0 61\nEND 2\n", 2, ScriptKind::Order),
-        (b"0 2 61\nEND 1\n", 1, ScriptKind::Line),
-        (b"END 0\nx", 2, ScriptKind::After),
-        (b"1 0 61\nEND 1\n", 2, ScriptKind::Slot),
+    let rows: [(&[u8], u32, ScriptKind); 28] = [
         (b"", 1, ScriptKind::End),
         (b"END 0", 1, ScriptKind::End),
+        (b"0 0 61\n", 2, ScriptKind::End),
+        (b"0 0 61\n1 0 61", 2, ScriptKind::End),
+        (b"\n", 1, ScriptKind::Form),
         (b"00 0 61\nEND 1\n", 1, ScriptKind::Form),
         (b"0 0 6A\nEND 1\n", 1, ScriptKind::Form),
+        (b"0 0 6\nEND 1\n", 1, ScriptKind::Form),
+        (b"0 0 \nEND 1\n", 1, ScriptKind::Form),
+        (b"0 0 61 \nEND 1\n", 1, ScriptKind::Form),
+        (b"0  0 61\nEND 1\n", 1, ScriptKind::Form),
+        (b"1000000000 0 61\nEND 1\n", 1, ScriptKind::Form),
+        (b"0 0 61\nEND 01\n", 2, ScriptKind::Form),
+        (b"0 0 61\nend 1\n", 2, ScriptKind::Form),
+        (b"65535 0 61\nEND 1\n", 1, ScriptKind::Limit),
+        (b"999999999 2 61\nEND 1\n", 1, ScriptKind::Limit),
         (b"END 1025\n", 1, ScriptKind::Limit),
+        (b"0 2 61\nEND 1\n", 1, ScriptKind::Line),
+        (b"1 0 61\n0 2 61\nEND 2\n", 2, ScriptKind::Line),
+        (b"1 0 61\n0 0 61\nEND 2\n", 2, ScriptKind::Order),
+        (b"0 1 61\n0 0 61\nEND 1\n", 2, ScriptKind::Order),
+        (b"0 0 61\n0 0 61\nEND 1\n", 2, ScriptKind::Order),
+        (b"1 0 61\nEND 1\n", 2, ScriptKind::Slot),
+        (b"0 0 61\nEND 0\n", 2, ScriptKind::Slot),
+        (b"1000 0 61\nEND 1025\n", 2, ScriptKind::Limit),
+        (b"END 0\nx", 2, ScriptKind::After),
+        (b"END 0\n\n", 2, ScriptKind::After),
+        (b"0 0 61\nEND 1\nEND 1\n", 3, ScriptKind::After),
     ];
     for (bytes, line, kind) in rows {
         let fault = fault_of(read_script(rt.alloc(), bytes, &image));
         assert_eq!(rt; fault, Some(ScriptFault { line, kind }));
     }
     assert!(rt; read_script(rt.alloc(), b"END 1024\n", &image).is_ok());
+    Ok(())
+}
+
+// With one turn a slot the number of slots is at its own limit.
+#[test]
+fn refuses_more_than_65535_slots(rt: HostRuntime) -> Result<(), Fail> {
+    let image = image(rt.alloc(), 1);
+    let text = b"65534 1 61\nEND 65535\n";
+    assert!(rt; read_script(rt.alloc(), text, &image).is_ok());
+    let fault = fault_of(read_script(rt.alloc(), b"END 65536\n", &image));
+    let (line, kind) = (1, ScriptKind::Limit);
+    assert_eq!(rt; fault, Some(ScriptFault { line, kind }));
+    Ok(())
+}
+
+// A record of 128 bytes, and of one more.
+#[test]
+fn refuses_a_record_of_129_bytes(rt: HostRuntime) -> Result<(), Fail> {
+    let image = image(rt.alloc(), 32);
+    let mut text = b"0 0 ".to_vec(rt.alloc())?;
+    text.extend_from_slice(&[b'6'; 256])?;
+    text.extend_from_slice(b"\nEND 1\n")?;
+    assert!(rt; read_script(rt.alloc(), &text, &image).is_ok());
+    text.insert(4, b'6')?;
+    text.insert(4, b'6')?;
+    let fault = fault_of(read_script(rt.alloc(), &text, &image));
+    let (line, kind) = (1, ScriptKind::Form);
+    assert_eq!(rt; fault, Some(ScriptFault { line, kind }));
+    Ok(())
+}
+
+// A byte over the limit comes before all else; at the limit a line without its LF is told.
+#[test]
+fn refuses_what_is_too_long(rt: HostRuntime) -> Result<(), Fail> {
+    let image = image(rt.alloc(), 32);
+    let mut text = vec![in rt.alloc(); b'6'; 1_048_577]?;
+    for (line, kind) in [(0, ScriptKind::Long), (1, ScriptKind::End)] {
+        let fault = fault_of(read_script(rt.alloc(), &text, &image));
+        assert_eq!(rt; fault, Some(ScriptFault { line, kind }));
+        text.truncate(1_048_576);
+    }
     Ok(())
 }
