@@ -136,36 +136,65 @@ fn ends_where_the_input_ends(rt: HostRuntime) -> Result<(), Fail> {
 #[test]
 fn tells_the_first_fault_of_a_spoilt_byte(rt: HostRuntime) -> Result<(), Fail> {
     let alloc = rt.alloc();
-    let rows: [(usize, u8, u32, &str); 30] = [
+    let rows: [(usize, u8, u32, &str); 59] = [
         (0, 0, 0, "magic"),
         (4, 3, 4, "version"),
         (6, 0, 6, "turns"),
+        (7, 17, 6, "turns"), // 4,384
         (8, 0, 8, "counts"),
+        (8, 65, 8, "counts"),
+        (9, 0, 9, "counts"),
+        (9, 33, 9, "counts"),
+        (10, 17, 10, "counts"),
         (10, 3, 10, "lines"),
+        (11, 0, 11, "counts"),
+        (11, 65, 11, "counts"),
+        (12, 0, 12, "counts"),
+        (13, 16, 12, "counts"), // 4,100 objects
         (20, 0, 20, "level"), // the first level again
         (21, 1, 20, "level"), // the zero byte
         (25, 2, 25, "schedule"),
         (26, 2, 26, "level"),
+        (27, 2, 26, "level"),
+        (27, 1, 26, "level"), // the current level above the greatest
         (28, 0, 26, "mode"),
+        (29, 2, 26, "mode"),
         (48, 1, 26, "entry"),
+        (62, 1, 26, "entry"), // the last one
         (64, 33, 26, "counts"),
+        (64, 2, 70, "window"), // 1 after 16
         (65, 32, 65, "window"),
         (67, 0x80, 65, "window"), // no path
+        (115, 0x10, 114, "path"), // the first object is `/0`
+        (118, 1, 114, "kind"), // root is a segment
+        (119, 1, 114, "blocks"),
+        (120, 1, 142, "level"), // `/0` is below root
+        (122, 0, 114, "quota"),
         (122, 3, 114, "quota"), // 4 used of 3
         (123, 16, 114, "quota"), // a limit of 4,112
+        (124, 0x12, 114, "row"), // e of a directory
+        (140, 1, 114, "contents"), // a word of a directory
         (143, 0, 142, "path"), // root again
+        (143, 0x20, 142, "parent"), // `/0/0` without `/0`
+        (143, 0x80, 142, "path"), // no path
         (146, 4, 142, "kind"),
         (147, 0, 142, "blocks"),
+        (147, 129, 142, "blocks"),
         (148, 2, 142, "level"),
         (149, 1, 142, "zero"),
+        (150, 1, 142, "quota"), // of a segment
         (153, 1, 142, "row"),
         (168, 33, 142, "contents"),
-        (231, 0, 226, "blocks"),
+        (203, 2, 198, "blocks"), // no such line
+        (231, 0, 226, "blocks"), // line 0 again
         (254, 2, 254, "subject"),
         (255, 0, 254, "modes"),
+        (255, 16, 254, "modes"),
         (255, 2, 254, "kind"),
-        (257, 0x80, 254, "path"),
+        (257, 0x80, 254, "path"), // no path
         (261, 4, 260, "row"),
+        (263, 0, 260, "path"), // root again
+        (272, 0, 272, "path"), // root after `/1`
         (287, 19, 284, "exists"),
     ];
     for (at, byte, place, text) in rows {
@@ -179,15 +208,22 @@ fn tells_the_first_fault_of_a_spoilt_byte(rt: HostRuntime) -> Result<(), Fail> {
 #[test]
 fn tells_the_first_fault_of_spoilt_parts(rt: HostRuntime) -> Result<(), Fail> {
     let alloc = rt.alloc();
-    let rows: [(&[(usize, u8)], u32, &str); 7] = [
+    let rows: [(&[(usize, u8)], u32, &str); 11] = [
         // the last words are 0
         (&[(196, 0), (197, 0)], 142, "contents"),
         // `/1/0` below a line
         (&[(227, 0x21)], 226, "parent"),
         // a row with w on `/2` for subject 0, who is below it
         (&[(236, 0x44), (269, 18)], 266, "ss"),
+        // `/1` is an upgraded directory without a quota, or another directory with one
+        (&[(202, 0), (204, 1)], 198, "quota"),
+        (&[(202, 0), (206, 1)], 198, "quota"),
         // a row with w on `/1` for subject 1, who is above it
         (&[(208, 0x44), (287, 17)], 284, "star"),
+        // a row with a on `/1` for subject 1, who is above it
+        (&[(208, 0x84), (285, 8), (287, 17)], 284, "star"),
+        // subject 0 may rise to the level of `/0`, of which it holds e, and is still below it
+        (&[(26, 1), (148, 1)], 260, "star"),
         // `/1` is an upgraded directory, the line `/1/0` is below it, and subject 0 holds a on that
         (
             &[
