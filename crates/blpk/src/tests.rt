@@ -328,25 +328,13 @@ fn tells_the_first_fault_of_an_image(rt: HostRuntime) -> Result<(), Fail> {
         );
     }
     // The image is cut short.
-    let rows: [(usize, &[u8]); 5] = [
-        (0, b"image refused at 0: end\n"),
-        (1, b"image refused at 1: end\n"),
-        (16, b"image refused at 16: end\n"),
-        (171, b"image refused at 171: end\n"),
-        (289, b"image refused at 289: end\n"),
-    ];
-    for (length, line) in rows {
-        let mut input = sample(alloc, b"")?;
-        input.truncate(length);
-        assert!(rt;
-            gives(
-                rt.alloc(),
-                &["run"],
-                &input,
-                AMPLE,
-                (Status::ImageRefused, b"", line)
-            )?
-        );
+    let whole = sample(alloc, b"")?;
+    for length in 0..290usize {
+        let line = format!(in alloc; "image refused at {length}: end\n")?;
+        let wanted = (Status::ImageRefused, b"".as_slice(), line.as_bytes());
+        if let Some(front) = whole.get(..length) {
+            assert!(rt; gives(rt.alloc(), &["run"], front, AMPLE, wanted)?);
+        }
     }
     // The line doesn't go out whole.
     let outside = Outside {
@@ -401,28 +389,57 @@ fn tells_the_first_fault_of_a_script(rt: HostRuntime) -> Result<(), Fail> {
     Ok(())
 }
 
-#[test]
-fn takes_a_record_of_more_than_a_line_keeps(rt: HostRuntime) -> Result<(), Fail> {
-    let mut script = b"0 0 ".to_vec(rt.alloc())?;
-    for _n in 0..65 {
-        script.extend_from_slice(b"61")?;
+/// The report of a run that ends well and tells nothing on the error output.
+fn report_of(alloc: Global, input: &[u8]) -> Result<Vec<u8>, Fail> {
+    let mut words = Vec::new(alloc);
+    words.push(String::from_str(alloc, "run")?)?;
+    let mut source = MemSource::new(input.to_vec(alloc)?, 4096, Vec::new(alloc));
+    let mut sink = MemSink::new(alloc, 65_536, 4096, Vec::new(alloc))
+        .ok()
+        .ok_or("memory")?;
+    let mut errors = MemSink::new(alloc, 100, 4096, Vec::new(alloc))
+        .ok()
+        .ok_or("memory")?;
+    let status = run_blpk(alloc, &words, &mut source, &mut sink, &mut errors);
+    if status != Status::Ok || !errors.taken().is_empty() {
+        return Err("no run".into());
     }
-    script.extend_from_slice(b"\nEND 1\n")?;
+    Ok(sink.taken().to_vec(alloc)?)
+}
+
+/// The records of the bytes 1 to 64, which the first subject sends out one in 10 of its turns; its slots of 32 turns are
+/// every second one.
+fn echoes(alloc: Global) -> Result<Vec<u8>, AllocError> {
+    let mut records = Vec::new(alloc);
+    for n in 0..64u32 {
+        let turn = 10 * n + 8;
+        let record = format!(in alloc; "L {} {} 0 {:03o}\n", turn / 32 * 2, turn % 32, n + 1)?;
+        records.extend_from_slice(record.as_bytes())?;
+    }
+    Ok(records)
+}
+
+// The bytes 1 to 65 are typed, and the first subject finds 64 of them.
+#[test]
+fn keeps_64_bytes_of_a_record_of_65(rt: HostRuntime) -> Result<(), Fail> {
+    let mut script = b"0 0 ".to_vec(rt.alloc())?;
+    for byte in 1..66u32 {
+        let digits = format!(in rt.alloc(); "{:02x}", byte)?;
+        script.extend_from_slice(digits.as_bytes())?;
+    }
+    script.extend_from_slice(b"\nEND 41\n")?;
     let input = sample(rt.alloc(), &script)?;
-    // The run begins, and ends as its output has room for one line alone.
-    let outside = Outside {
-        room: FIRST_CALL.len() as u32,
-        ..AMPLE
-    };
-    assert!(rt;
-        gives(
-            rt.alloc(),
-            &["run"],
-            &input,
-            outside,
-            (Status::WriteFault, FIRST_CALL, b"")
-        )?
-    );
+    let report = report_of(rt.alloc(), &input)?;
+    let records = line_records(rt.alloc(), &report, 0b01)
+        .ok()
+        .ok_or("memory")?;
+    assert_eq!(rt; records.as_slice(), echoes(rt.alloc())?.as_slice());
+    let last = b"
+C 40 2 0 020 000000 010400 000000 000100 000000 010400 no 9
+C 40 5 0 024 000001 000011 000000 000100 000000 010400 yes 0
+END 41 1312 934 170
+";
+    assert!(rt; report.ends_with(last));
     Ok(())
 }
 
