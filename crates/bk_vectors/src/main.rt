@@ -1,28 +1,23 @@
 //! Compares cases of the processor, computed outside, with the project's own calls.
 //!
-//! Model: `specs/Agrees.antt` (`Agrees`), over the definitions of `bk_isa`.
-//! Calls: `main`: cases on standard input; those that differ, up to twenty, and the totals on standard output.
-//! Proved: a case that was read counts as one that agrees exactly where the definitions give its answer. Reading is tested.
-//! Stands on: `bk_isa`, `bk_word`, `bk_cpu`.
+//! Model: none; `Agrees` of `bk_case` says when a case agrees.
+//! Calls: none. `main` takes cases on standard input, and writes those that differ, up to twenty, and the totals.
+//! Proved: no input stops it. Whether a case agrees, and how it is counted, is proved in `bk_case`; reading is tested.
+//! Stands on: `bk_case`.
 #![tactic(auto)]
 
-mod case;
-mod read;
-mod step_case;
-mod stepped;
-mod tally;
-mod unread;
-mod word;
+mod block;
+mod instr;
+mod line;
+mod names;
+mod numbers;
 
-use case::agrees;
-use read::read_case;
+use bk_case::{Tally, Unread, agrees, step_agrees};
+use block::read_step;
+use line::read_case;
 use std::alloc::{AllocError, Global};
 use std::io::{self, Read};
 use std::process::ExitCode;
-use step_case::read_step;
-use stepped::step_agrees;
-use tally::Tally;
-use unread::Unread;
 
 /// How many lines that differ are named.
 const NAMED: u64 = 20;

@@ -1,6 +1,6 @@
 ghost use Rattle.std.specs.Prelude.{◌≡◌, ◌↔◌, ◌<◌, ◌^◌, IsTrue};
 ghost use Rattle.bk_isa.specs.Numbers.{bits_of};
-ghost use Rattle.bk_vectors.specs.Agrees.{Agrees};
+ghost use Rattle.bk_case.specs.Agrees.{Agrees};
 
 use crate::word::{has_single, reads_as};
 use bk_isa::{Bin, Instr, Un};
@@ -8,7 +8,7 @@ use bk_space::{Flags, Width};
 use bk_word::{ash, ashc, binary, div, mul, unary};
 
 /// A case with its answer: of one of the six result calls, or of a word that is decoded.
-#[derive(Clone, Copy, PartialEq, Eq, Debug)]
+#[derive(Clone, Copy)]
 pub enum Case {
     Binary {
         op: Bin,

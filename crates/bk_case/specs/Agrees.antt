@@ -4,8 +4,8 @@ use Rattle.bk_isa.specs.Decode.{decode_of}
 use Rattle.bk_isa.specs.Numbers.{bits_of}
 use Rattle.bk_isa.specs.Results.{binary_of, unary_of}
 use Rattle.bk_isa.specs.Extended.{mul_of, div_of, ash_of, ashc_of}
-use Rattle.bk_vectors.specs.declared.case.Case.{Case}
-use Rattle.bk_vectors.specs.declared.case.Case.TheVariants.{Binary, Unary, Mul, Div, Ash, Ashc, Word}
+use Rattle.bk_case.specs.declared.case.Case.{Case}
+use Rattle.bk_case.specs.declared.case.Case.TheVariants.{Binary, Unary, Mul, Div, Ash, Ashc, Word}
 
 -- the definitions give what the case says; a case whose operands an operation doesn't take agrees with none
 abbrev pub Agrees : Case → Type 0
