@@ -1,1 +1,2 @@
+pub mod CountSets
 pub mod PageLemmas

@@ -2,7 +2,8 @@ ghost use Rattle.std.specs.Prelude.{◌≡◌, ◌<◌, OnErr};
 ghost use Rattle.bk_space.specs.Counts.{counted_on};
 ghost use Rattle.bk_space.specs.Undo.{undone, IsFresh};
 ghost use Rattle.bk_isa.specs.Codes.{IsField};
-ghost use Rattle.bk_exec.specs.Control.{is_taken, target, branched, jumping, calling, returning, marking, resuming, codes_of};
+ghost use Rattle.bk_exec.specs.declared.ending.Ending.TheVariants.{Returned};
+ghost use Rattle.bk_exec.specs.Control.{is_taken, target, branched, jumping, call_to, calling, returning, marking, resuming, codes_of};
 ghost use Rattle.bk_cpu.specs.Reached.{Reaches, left_by};
 
 use crate::stack::{pop, push};
@@ -56,7 +57,7 @@ pub(crate) fn branch(regs: &mut Regs, cond: Cond, offset: u8)
 }
 
 /// JMP.
-#[tactic(auto, using(bk_space::proofs::CountLemmas::counted_lemmas), unfolding(bk_exec::specs::Control::jumping))]
+#[tactic(auto, using(crate::proofs::CountSets::no_part), unfolding(bk_exec::specs::Control::jumping))]
 pub(crate) fn jump<B: Bus>(
     regs: &mut Regs,
     undo: &mut Undo,
@@ -79,8 +80,28 @@ pub(crate) fn jump<B: Bus>(
     }
 }
 
+// JSR to a place: the register is pushed as it is before the push.
+#[tactic(auto, using(crate::proofs::CountSets::no_part), unfolding(bk_exec::specs::Control::call_to))]
+fn call_at<B: Bus>(regs: &mut Regs, bus: &mut B, r: u8, to: Place) -> Result<Ending, Cause>
+    requires { r < 8 }
+    ensures reaches { Reaches result regs.new (call_to (B.shown (B.state bus.old)) r to regs.old) }
+    ensures count { B.references bus.new ≡ counted_on (B.references bus.old) (call_to (B.shown (B.state bus.old)) r to regs.old).made }
+    ensures state { B.state bus.new ≡ left_by B.after (B.state bus.old) (call_to (B.shown (B.state bus.old)) r to regs.old).outcome }
+    ensures kept { OnErr result (regs.new ≡ regs.old) }
+{
+    match to {
+        Place::Reg(_) => Err(Cause::Reserved),
+        Place::Mem { addr, .. } => {
+            push(regs, bus, regs.reg(r))?;
+            regs.set_reg(r, regs.pc);
+            regs.pc = addr;
+            Ok(Ending::Completed)
+        }
+    }
+}
+
 /// JSR.
-#[tactic(auto, using(bk_space::proofs::CountLemmas::counted_lemmas), unfolding(bk_exec::specs::Control::calling, bk_exec::specs::Control::call_to))]
+#[tactic(auto, using(bk_space::proofs::CountLemmas::counted_lemmas), unfolding(bk_exec::specs::Control::calling))]
 pub(crate) fn call<B: Bus>(
     regs: &mut Regs,
     undo: &mut Undo,
@@ -96,15 +117,8 @@ pub(crate) fn call<B: Bus>(
     ensures state { B.state bus.new ≡ left_by B.after (B.state bus.old) (calling (B.shown (B.state bus.old)) r dst regs.old).outcome }
     ensures undone { OnErr result (undone undo.new regs.new ≡ undone undo.old regs.old) }
 {
-    match locate(regs, undo, bus, dst, Width::Word)? {
-        Place::Reg(_) => Err(Cause::Reserved),
-        Place::Mem { addr, .. } => {
-            push(regs, bus, regs.reg(r))?;
-            regs.set_reg(r, regs.pc);
-            regs.pc = addr;
-            Ok(Ending::Completed)
-        }
-    }
+    let to = locate(regs, undo, bus, dst, Width::Word)?;
+    call_at(regs, bus, r, to)
 }
 
 /// RTS.
@@ -130,7 +144,7 @@ pub(crate) fn return_by<B: Bus>(
 }
 
 /// MARK.
-#[tactic(auto, using(bk_space::proofs::CountLemmas::counted_lemmas), unfolding(bk_exec::specs::Control::marking, bk_operand::specs::Part::reading))]
+#[tactic(auto, using(crate::proofs::CountSets::no_part), unfolding(bk_exec::specs::Control::marking, bk_operand::specs::Part::reading))]
 pub(crate) fn mark<B: Bus>(regs: &mut Regs, bus: &mut B, count: u8) -> Result<Ending, Cause>
     requires { count < 64 }
     ensures reaches { Reaches result regs.new (marking (B.shown (B.state bus.old)) count regs.old) }
@@ -163,6 +177,16 @@ pub(crate) fn resume<B: Bus>(regs: &mut Regs, bus: &mut B, ending: Ending) -> Re
     regs.pc = pc;
     regs.ps = ps;
     Ok(ending)
+}
+
+/// RTT: what comes after it is not traced.
+pub(crate) fn resume_untraced<B: Bus>(regs: &mut Regs, bus: &mut B) -> Result<Ending, Cause>
+    ensures reaches { Reaches result regs.new (resuming (B.shown (B.state bus.old)) Returned regs.old) }
+    ensures count { B.references bus.new ≡ counted_on (B.references bus.old) (resuming (B.shown (B.state bus.old)) Returned regs.old).made }
+    ensures state { B.state bus.new ≡ left_by B.after (B.state bus.old) (resuming (B.shown (B.state bus.old)) Returned regs.old).outcome }
+    ensures kept { OnErr result (regs.new ≡ regs.old) }
+{
+    resume(regs, bus, Ending::Returned)
 }
 
 /// The condition codes of a mask, set or cleared.

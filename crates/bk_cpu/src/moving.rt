@@ -1,9 +1,11 @@
 ghost use Rattle.std.specs.Prelude.{◌≡◌, ◌<◌, ◌^◌, OnErr};
 ghost use Rattle.bk_space.specs.Counts.{counted_on};
-ghost use Rattle.bk_space.specs.Undo.{undone, IsFresh};
+ghost use Rattle.bk_space.specs.Undo.{undone, HasRoom, IsFresh};
 ghost use Rattle.bk_space.specs.Widths.{bits_of};
 ghost use Rattle.bk_isa.specs.Codes.{IsField};
+ghost use Rattle.bk_operand.specs.Operand.{IsPlace};
 ghost use Rattle.bk_exec.specs.Operands.{moved_width, sign_extended, moving};
+ghost use Rattle.bk_cpu.specs.Moved.{moved_to, moved_from};
 ghost use Rattle.bk_cpu.specs.Reached.{Reaches, left_by};
 
 use bk_exec::Ending;
@@ -41,8 +43,54 @@ fn extend(width: Width, to: Place, value: u16) -> u16
     }
 }
 
+// MOV from the destination's place on: it is written and not read.
+#[tactic(auto, unfolding(crate::specs::Moved::moved_to))]
+fn move_to_place<B: Bus>(
+    regs: &mut Regs,
+    bus: &mut B,
+    width: Width,
+    value: u16,
+    to: Place,
+) -> Result<Ending, Cause>
+    requires value { value < 2 ^ bits_of width }
+    requires to { IsPlace to }
+    ensures reaches { Reaches result regs.new (moved_to (B.shown (B.state bus.old)) width value to regs.old) }
+    ensures count { B.references bus.new ≡ counted_on (B.references bus.old) (moved_to (B.shown (B.state bus.old)) width value to regs.old).made }
+    ensures state { B.state bus.new ≡ left_by B.after (B.state bus.old) (moved_to (B.shown (B.state bus.old)) width value to regs.old).outcome }
+    ensures kept { OnErr result (regs.new ≡ regs.old) }
+{
+    store(regs, bus, to, width_to(width, to), extend(width, to, value))?;
+    let (_, flags) = binary(Bin::Mov, width, value, 0, regs.ps.flags);
+    regs.ps.flags = flags;
+    Ok(Ending::Completed)
+}
+
+// MOV from the source's place on: it is fetched whole before the destination's address is formed, so
+// that (R)+ as destination sees R already stepped.
+#[tactic(auto, using(bk_space::proofs::CountLemmas::counted_lemmas), unfolding(crate::specs::Moved::moved_from))]
+fn move_from_place<B: Bus>(
+    regs: &mut Regs,
+    undo: &mut Undo,
+    bus: &mut B,
+    width: Width,
+    from: Place,
+    dst: Field,
+) -> Result<Ending, Cause>
+    requires from { IsPlace from }
+    requires dst { IsField dst }
+    requires room { HasRoom undo.old }
+    ensures reaches { Reaches result regs.new (moved_from (B.shown (B.state bus.old)) width from dst regs.old) }
+    ensures count { B.references bus.new ≡ counted_on (B.references bus.old) (moved_from (B.shown (B.state bus.old)) width from dst regs.old).made }
+    ensures state { B.state bus.new ≡ left_by B.after (B.state bus.old) (moved_from (B.shown (B.state bus.old)) width from dst regs.old).outcome }
+    ensures undone { OnErr result (undone undo.new regs.new ≡ undone undo.old regs.old) }
+{
+    let value = fetch(regs, bus, from, width)?;
+    let to = locate(regs, undo, bus, dst, width)?;
+    move_to_place(regs, bus, width, value, to)
+}
+
 /// MOV.
-#[tactic(auto, using(bk_space::proofs::CountLemmas::counted_lemmas), unfolding(bk_exec::specs::Operands::moving))]
+#[tactic(auto, using(bk_space::proofs::CountLemmas::counted_lemmas), unfolding(bk_exec::specs::Operands::moving, crate::specs::Moved::moved_from, crate::specs::Moved::moved_to))]
 pub(crate) fn move_value<B: Bus>(
     regs: &mut Regs,
     undo: &mut Undo,
@@ -59,13 +107,6 @@ pub(crate) fn move_value<B: Bus>(
     ensures state { B.state bus.new ≡ left_by B.after (B.state bus.old) (moving (B.shown (B.state bus.old)) width src dst regs.old).outcome }
     ensures undone { OnErr result (undone undo.new regs.new ≡ undone undo.old regs.old) }
 {
-    // The source is fetched whole before the destination's address is formed, so that (R)+ as
-    // destination sees R already stepped.
     let from = locate(regs, undo, bus, src, width)?;
-    let value = fetch(regs, bus, from, width)?;
-    let to = locate(regs, undo, bus, dst, width)?;
-    store(regs, bus, to, width_to(width, to), extend(width, to, value))?;
-    let (_, flags) = binary(Bin::Mov, width, value, 0, regs.ps.flags);
-    regs.ps.flags = flags;
-    Ok(Ending::Completed)
+    move_from_place(regs, undo, bus, width, from, dst)
 }

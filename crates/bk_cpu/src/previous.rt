@@ -16,7 +16,7 @@ use bk_space::{Abort, Bus, Cause, Field, Regs, Space, Undo, Width};
 use bk_word::binary;
 
 // The value of an operand of the previous mode.
-#[tactic(auto, using(bk_space::proofs::CountLemmas::counted_lemmas), unfolding(bk_exec::specs::Previous::fetched_previous, bk_operand::specs::Part::reading))]
+#[tactic(auto, using(crate::proofs::CountSets::no_part), unfolding(bk_exec::specs::Previous::fetched_previous, bk_operand::specs::Part::reading))]
 fn fetch_previous<B: Bus>(
     regs: &Regs,
     bus: &mut B,
@@ -36,7 +36,7 @@ fn fetch_previous<B: Bus>(
 }
 
 // Stores a word for the previous mode.
-#[tactic(auto, using(bk_space::proofs::CountLemmas::counted_lemmas), unfolding(bk_exec::specs::Previous::stored_previous, bk_operand::specs::Part::writing))]
+#[tactic(auto, using(crate::proofs::CountSets::no_part), unfolding(bk_exec::specs::Previous::stored_previous, bk_operand::specs::Part::writing))]
 fn store_previous<B: Bus>(
     regs: &mut Regs,
     bus: &mut B,

@@ -10,7 +10,7 @@ ghost use Rattle.bk_exec.specs.Given.{minus, pushed, popped};
 use bk_space::{Abort, Bus, Regs, Space, Undo};
 
 /// Pushes a word on the current stack, in D space. The stack pointer moves once the word is written.
-#[tactic(auto, using(bk_space::proofs::CountLemmas::counted_lemmas), unfolding(bk_exec::specs::Given::pushed, bk_operand::specs::Part::writing))]
+#[tactic(auto, using(crate::proofs::CountSets::no_part), unfolding(bk_exec::specs::Given::pushed, bk_operand::specs::Part::writing))]
 pub(crate) fn push<B: Bus>(regs: &mut Regs, bus: &mut B, value: u16) -> Result<(), Abort>
     ensures pushed { Follows (λ _. Some (record { mode = regs.old.ps.mode; space = D; width = Word; addr = minus (reg regs.old 6) 2; value = value })) result regs.new (pushed (B.shown (B.state bus.old)) value regs.old) }
     ensures count { B.references bus.new ≡ counted_on (B.references bus.old) (pushed (B.shown (B.state bus.old)) value regs.old).made }
@@ -25,7 +25,7 @@ pub(crate) fn push<B: Bus>(regs: &mut Regs, bus: &mut B, value: u16) -> Result<(
 }
 
 /// Pops a word off the current stack, in D space. The stack pointer's move is noted.
-#[tactic(auto, using(bk_space::proofs::CountLemmas::counted_lemmas), unfolding(bk_exec::specs::Given::popped, bk_operand::specs::Part::reading))]
+#[tactic(auto, using(crate::proofs::CountSets::no_part), unfolding(bk_exec::specs::Given::popped, bk_operand::specs::Part::reading))]
 pub(crate) fn pop<B: Bus>(regs: &mut Regs, undo: &mut Undo, bus: &mut B) -> Result<u16, Abort>
     requires room { HasRoom undo.old }
     ensures word { Follows (λ x. x) result regs.new (popped (B.shown (B.state bus.old)) regs.old) }

@@ -6,7 +6,7 @@ ghost use Rattle.bk_isa.specs.Codes.{IsListed};
 ghost use Rattle.bk_exec.specs.Exec.{executed, running, event_of, exec};
 ghost use Rattle.bk_cpu.specs.Reached.{Reaches, left_by};
 
-use crate::control::{branch, call, codes, jump, mark, resume, return_by};
+use crate::control::{branch, call, codes, jump, mark, resume, resume_untraced, return_by};
 use crate::doubles::double;
 use crate::extending::{extended, subtract_one_and_branch};
 use crate::previous::{move_from, move_to};
@@ -17,7 +17,7 @@ use bk_operand::next_word;
 use bk_space::{Bus, Cause, Regs, Undo};
 
 // An instruction that has been fetched.
-#[tactic(auto, using(bk_space::proofs::CountLemmas::counted_lemmas), unfolding(bk_exec::specs::Exec::executed))]
+#[tactic(auto, using(crate::proofs::CountSets::no_part), unfolding(bk_exec::specs::Exec::executed))]
 fn execute<B: Bus>(
     regs: &mut Regs,
     undo: &mut Undo,
@@ -64,7 +64,7 @@ fn execute<B: Bus>(
         Instr::Trap { .. } => Ok(Ending::Trapped),
         Instr::Halt => Err(Cause::Reserved),
         Instr::Rti => resume(regs, bus, Ending::Completed),
-        Instr::Rtt => resume(regs, bus, Ending::Returned),
+        Instr::Rtt => resume_untraced(regs, bus),
         Instr::Bpt => Ok(Ending::Broke),
         Instr::Iot => Ok(Ending::Interrupted),
     }
