@@ -10,7 +10,7 @@ use Rattle.std.proofs.lemmas.List.Splits.{slice_split_at, slice_split_none}
 use Rattle.std.proofs.lemmas.Slice.Eq.{bytes_eq-Decides}
 use Rattle.bk_report.specs.declared.item.ReportItem.{ReportItem}
 use Rattle.bk_report.specs.declared.item.ReportItem.TheVariants.{Call, Fault, Byte, End}
-use Rattle.bk_report.specs.Text.{octal3, octal6, words_of, answer_of, how_of, text_of, lines_of, IsWithin, IsPrinted}
+use Rattle.bk_report.specs.Text.{octal3, octal6, words_of, answer_of, how_of, text_of, lines_of, IsNumbered}
 use Rattle.bk_report.specs.Lines.{names_below, names_in, are_record, kept, line_records_of, is_byte_in}
 use Rattle.bk_report.proofs.Naming.{line_records_of-cut, line_records_of-none}
 
@@ -107,42 +107,42 @@ text_of-body (End slots turns references calls) more = simp append_assoc
 after_kind : (b : ℕ) (text : List ℕ) → (b == 10) ≡ false → OneLine text → OneLine (b ∷ 32 ∷ text)
 after_kind b text e p = All-cons (λ b. (b == 10) ≡ false) b (32 ∷ text) e (All-cons (λ b. (b == 10) ≡ false) 32 text refl p)
 
-body_one_line : (item : ReportItem) → IsWithin item → OneLine (body item)
+body_one_line : (item : ReportItem) → IsNumbered item → OneLine (body item)
 body_one_line (Call slot turn subject number regs answer cause) w =
     after_kind 67 (decimal slot ++ (32 ∷ (decimal turn ++ (32 ∷ (decimal subject ++ (32 ∷ (octal3 number
     ++ (words_of regs ++ (32 ∷ (answer_of answer ++ (32 ∷ decimal cause))))))))))) refl
     (field (decimal slot) (decimal turn ++ (32 ∷ (decimal subject ++ (32 ∷ (octal3 number ++ (words_of regs ++ (32 ∷ (answer_of answer ++ (32 ∷ decimal cause)))))))))
-    (plain_decimal slot (omega (arith, w.0)))
+    (plain_decimal slot w.0)
     (field (decimal turn) (decimal subject ++ (32 ∷ (octal3 number ++ (words_of regs ++ (32 ∷ (answer_of answer ++ (32 ∷ decimal cause)))))))
-    (plain_decimal turn (omega (arith, w.1)))
+    (plain_decimal turn w.1)
     (field (decimal subject) (octal3 number ++ (words_of regs ++ (32 ∷ (answer_of answer ++ (32 ∷ decimal cause)))))
-    (plain_decimal subject (omega (arith, w.2)))
+    (plain_decimal subject w.2)
     (All-append (λ b. (b == 10) ≡ false) (octal3 number) (words_of regs ++ (32 ∷ (answer_of answer ++ (32 ∷ decimal cause))))
     (one_line (octal3 number) (plain_octal3 number))
     (words_field regs (answer_of answer ++ (32 ∷ decimal cause))
-    (field (answer_of answer) (decimal cause) (plain_answer answer) (one_line (decimal cause) (plain_decimal cause (omega (arith, w.6))))))))))
+    (field (answer_of answer) (decimal cause) (plain_answer answer) (one_line (decimal cause) (plain_decimal cause w.3))))))))
 body_one_line (Fault slot turn subject cause pc entered) w =
     after_kind 70 (decimal slot ++ (32 ∷ (decimal turn ++ (32 ∷ (decimal subject ++ (32 ∷ (decimal cause ++ (32 ∷ (octal6 pc ++ (32 ∷ how_of entered)))))))))) refl
     (field (decimal slot) (decimal turn ++ (32 ∷ (decimal subject ++ (32 ∷ (decimal cause ++ (32 ∷ (octal6 pc ++ (32 ∷ how_of entered))))))))
-    (plain_decimal slot (omega (arith, w.0)))
+    (plain_decimal slot w.0)
     (field (decimal turn) (decimal subject ++ (32 ∷ (decimal cause ++ (32 ∷ (octal6 pc ++ (32 ∷ how_of entered))))))
-    (plain_decimal turn (omega (arith, w.1)))
+    (plain_decimal turn w.1)
     (field (decimal subject) (decimal cause ++ (32 ∷ (octal6 pc ++ (32 ∷ how_of entered))))
-    (plain_decimal subject (omega (arith, w.2)))
-    (field (decimal cause) (octal6 pc ++ (32 ∷ how_of entered)) (plain_decimal cause (omega (arith, w.3)))
+    (plain_decimal subject w.2)
+    (field (decimal cause) (octal6 pc ++ (32 ∷ how_of entered)) (plain_decimal cause w.3)
     (field (octal6 pc) (how_of entered) (plain_octal6 pc) (one_line (how_of entered) (plain_how entered)))))))
 body_one_line (Byte slot turn line byte) w =
     after_kind 76 (decimal slot ++ (32 ∷ (decimal turn ++ (32 ∷ (decimal line ++ (32 ∷ octal3 byte)))))) refl
-    (field (decimal slot) (decimal turn ++ (32 ∷ (decimal line ++ (32 ∷ octal3 byte)))) (plain_decimal slot (omega (arith, w.0)))
-    (field (decimal turn) (decimal line ++ (32 ∷ octal3 byte)) (plain_decimal turn (omega (arith, w.1)))
+    (field (decimal slot) (decimal turn ++ (32 ∷ (decimal line ++ (32 ∷ octal3 byte)))) (plain_decimal slot w.0)
+    (field (decimal turn) (decimal line ++ (32 ∷ octal3 byte)) (plain_decimal turn w.1)
     (field (decimal line) (octal3 byte) (plain_decimal line (omega (arith, w.2))) (one_line (octal3 byte) (plain_octal3 byte)))))
 body_one_line (End slots turns references calls) w =
     All-cons (λ b. (b == 10) ≡ false) 69 (78 ∷ 68 ∷ 32 ∷ (decimal slots ++ (32 ∷ (decimal turns ++ (32 ∷ (decimal references ++ (32 ∷ decimal calls))))))) refl
     (All-cons (λ b. (b == 10) ≡ false) 78 (68 ∷ 32 ∷ (decimal slots ++ (32 ∷ (decimal turns ++ (32 ∷ (decimal references ++ (32 ∷ decimal calls))))))) refl
     (after_kind 68 (decimal slots ++ (32 ∷ (decimal turns ++ (32 ∷ (decimal references ++ (32 ∷ decimal calls)))))) refl
-    (field (decimal slots) (decimal turns ++ (32 ∷ (decimal references ++ (32 ∷ decimal calls)))) (plain_decimal slots (omega (arith, w.0)))
-    (field (decimal turns) (decimal references ++ (32 ∷ decimal calls)) (plain_decimal turns (omega (arith, w.1)))
-    (field (decimal references) (decimal calls) (plain_decimal references w.2) (one_line (decimal calls) (plain_decimal calls (omega (arith, w.3)))))))))
+    (field (decimal slots) (decimal turns ++ (32 ∷ (decimal references ++ (32 ∷ decimal calls)))) (plain_decimal slots w.0)
+    (field (decimal turns) (decimal references ++ (32 ∷ decimal calls)) (plain_decimal turns w.1)
+    (field (decimal references) (decimal calls) (plain_decimal references w.2) (one_line (decimal calls) (plain_decimal calls w.3)))))))
 
 -- ---- which bodies are records
 
@@ -187,7 +187,7 @@ names_below-decimal set line (suc k) small le = by (nat_eq line k) refl (names_b
       let eq : bytes_eq (decimal line) (decimal k) ≡ false = no_text line k small (omega (arith, le)) other in
       rw (rest, same, eq) (or_and_false (nat_lt line k && set line) (set k))
 
-kept_body : (set : ℕ → Bool) (item : ReportItem) → IsWithin item → are_record set (slice_split (λ b. b == 32) (body item)) ≡ is_byte_in set item
+kept_body : (set : ℕ → Bool) (item : ReportItem) → IsNumbered item → are_record set (slice_split (λ b. b == 32) (body item)) ≡ is_byte_in set item
 unfolding names_in
 kept_body set (Call slot turn subject number regs answer cause) w =
     other_kind set (67 ∷ []) (slice_split (λ b. b == 32) (decimal slot ++ (32 ∷ (decimal turn ++ (32 ∷ (decimal subject ++ (32 ∷ (octal3 number
@@ -198,9 +198,9 @@ kept_body set (Fault slot turn subject cause pc entered) w =
 kept_body set (Byte slot turn line byte) w =
     let four : slice_split (λ b. b == 32) (decimal slot ++ (32 ∷ (decimal turn ++ (32 ∷ (decimal line ++ (32 ∷ octal3 byte))))))
     ≡ decimal slot ∷ decimal turn ∷ decimal line ∷ octal3 byte ∷ [] =
-    slice_split_at (λ b. b == 32) (decimal slot) 32 (decimal turn ++ (32 ∷ (decimal line ++ (32 ∷ octal3 byte)))) (no_space (decimal slot) (plain_decimal slot (omega (arith, w.0)))) refl
+    slice_split_at (λ b. b == 32) (decimal slot) 32 (decimal turn ++ (32 ∷ (decimal line ++ (32 ∷ octal3 byte)))) (no_space (decimal slot) (plain_decimal slot w.0)) refl
     ∙ ap (λ more. decimal slot ∷ more) (
-    slice_split_at (λ b. b == 32) (decimal turn) 32 (decimal line ++ (32 ∷ octal3 byte)) (no_space (decimal turn) (plain_decimal turn (omega (arith, w.1)))) refl
+    slice_split_at (λ b. b == 32) (decimal turn) 32 (decimal line ++ (32 ∷ octal3 byte)) (no_space (decimal turn) (plain_decimal turn w.1)) refl
     ∙ ap (λ more. decimal turn ∷ more) (
     slice_split_at (λ b. b == 32) (decimal line) 32 (octal3 byte) (no_space (decimal line) (plain_decimal line (omega (arith, w.2)))) refl
     ∙ ap (λ more. decimal line ∷ more) (slice_split_none (λ b. b == 32) (octal3 byte) (no_space (octal3 byte) (plain_octal3 byte))))) in
@@ -213,7 +213,7 @@ kept_body set (End slots turns references calls) w =
 
 -- ---- the records of items
 
-records_of-more : (set : ℕ → Bool) (item : ReportItem) (more : List ℕ) → IsWithin item
+records_of-more : (set : ℕ → Bool) (item : ReportItem) (more : List ℕ) → IsNumbered item
     → line_records_of set (text_of item ++ more) ≡ cond (is_byte_in set item) (text_of item) [] ++ line_records_of set more
 records_of-more set item more w =
     let parts : slice_split (λ b. b == 10) (text_of item ++ more) ≡ body item ∷ slice_split (λ b. b == 10) more =
@@ -223,19 +223,19 @@ records_of-more set item more w =
     ap (λ b. cond b (body item ++ (10 ∷ [])) []) (kept_body set item w) ∙ ap (λ t. cond (is_byte_in set item) t []) line in
     line_records_of-cut set (text_of item ++ more) (body item) more parts ∙ ap (λ t. t ++ line_records_of set more) one
 
-by_recursion : (set : ℕ → Bool) (items : List ReportItem) → AllByRecursion IsPrinted items
+pub by_recursion : (set : ℕ → Bool) (items : List ReportItem) → AllByRecursion IsNumbered items
     → line_records_of set (lines_of items) ≡ lines_of (filter (is_byte_in set) items)
 unfolding lines_of
 by_recursion set [] h = line_records_of-none set [] refl
 by_recursion set (item ∷ items) h =
     let w = h.0 in
-    records_of-more set item (flat_map text_of items) w.within ∙ by (is_byte_in set item) (by_recursion set items h.1) where
+    records_of-more set item (flat_map text_of items) w ∙ by (is_byte_in set item) (by_recursion set items h.1) where
       by : (b : Bool) → line_records_of set (flat_map text_of items) ≡ flat_map text_of (filter (is_byte_in set) items)
           → cond b (text_of item) [] ++ line_records_of set (flat_map text_of items) ≡ flat_map text_of (cond b (item ∷ filter (is_byte_in set) items) (filter (is_byte_in set) items))
       by true rest = ap (λ t. text_of item ++ t) rest
       by false rest = rest
 
 -- the line records of a report of items are the lines of its bytes on these lines
-pub line_records_of-lines_of : (set : ℕ → Bool) (items : List ReportItem) → All IsPrinted items
+pub line_records_of-lines_of : (set : ℕ → Bool) (items : List ReportItem) → All IsNumbered items
     → line_records_of set (lines_of items) ≡ lines_of (filter (is_byte_in set) items)
-line_records_of-lines_of set items h = by_recursion set items (recursion_from_All IsPrinted items h)
+line_records_of-lines_of set items h = by_recursion set items (recursion_from_All IsNumbered items h)

@@ -60,6 +60,13 @@ IsWithin (Fault slot turn subject cause pc entered) =
 IsWithin (Byte slot turn line byte) = (slot < 2 ^ 32) × (turn < 2 ^ 16) × (line < 2 ^ 8) × (byte < 2 ^ 8)
 IsWithin (End slots turns references calls) = (slots < 2 ^ 32) × (turns < 2 ^ 32) × (references < 2 ^ 64) × (calls < 2 ^ 32)
 
+-- the numbers that an item tells in decimal are below 2 ^ 64, and that of a line is below 2 ^ 8
+abbrev pub IsNumbered : ReportItem → Type 0
+IsNumbered (Call slot turn subject number regs answer cause) = (slot < 2 ^ 64) × (turn < 2 ^ 64) × (subject < 2 ^ 64) × (cause < 2 ^ 64)
+IsNumbered (Fault slot turn subject cause pc entered) = (slot < 2 ^ 64) × (turn < 2 ^ 64) × (subject < 2 ^ 64) × (cause < 2 ^ 64)
+IsNumbered (Byte slot turn line byte) = (slot < 2 ^ 64) × (turn < 2 ^ 64) × (line < 2 ^ 8)
+IsNumbered (End slots turns references calls) = (slots < 2 ^ 64) × (turns < 2 ^ 64) × (references < 2 ^ 64) × (calls < 2 ^ 64)
+
 -- an item that is printed
 pub record IsPrinted (item : ReportItem) : Type 0 where
   pub within : IsWithin item
