@@ -16,7 +16,7 @@ use Rattle.bk_image.specs.Parts.{Rest, Reads, ◌>>=◌, first_failing, part, ch
 use Rattle.bk_image.specs.Numbers.{word, words_of}
 use Rattle.bk_image.specs.Objects.{kind_of, blocks_of, object_of, object_fails, words_checks, object_at}
 use Rattle.bk_image.specs.Spelling.{words_bytes, path_bytes, blocks_byte, kind_bytes, row_bytes, object_record, object_bytes}
-use Rattle.bk_image.specs.Writing.{blocks_fit}
+use Rattle.bk_image.specs.Writing.{RowFits, blocks_fit}
 use Rattle.bk_image.proofs.Grown.{from}
 use Rattle.bk_image.proofs.Only.{Only, only_then, only_checked, only_done, part_only, checked_only, Rereads, word_back, words_again, words_count, path_again}
 
@@ -26,11 +26,6 @@ kind_again Directory blocks fit = (refl, refl)
 kind_again Segment blocks fit = (refl, refl)
 kind_again Mailbox blocks fit = (refl, refl)
 kind_again (Line n) blocks fit = (refl, grind (arith, nat_tests, fit))
-
--- 32 sets of the four modes
-pub record RowFits (row : List Modes) : Type 0 where
-  pub whole : length row ≡ 32
-  pub sets : All (λ modes. modes.0 < 16) row
 
 -- the sets of a row by their places
 abbrev sets_from : ℕ → ℕ → List Modes → List Modes

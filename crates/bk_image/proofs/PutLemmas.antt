@@ -1,12 +1,14 @@
 -- Lists that grow by one part.
-use Rattle.std.proofs.Common.{◌≡◌, ℕ, ◌+◌, ◌*◌, ◌<◌, Bool, true, List, [], ◌∷◌, ◌++◌, length, get_or, take, drop, refl, sym, ap, subst, ◌∙◌, append_assoc, arith, inl, inr}
+use Rattle.std.proofs.Common.{◌≡◌, ℕ, suc, ◌+◌, ◌*◌, ◌<◌, Bool, true, List, [], ◌∷◌, ◌++◌, length, get_or, take, drop, refl, sym, ap, subst, ◌∙◌, append_assoc, arith, inl, inr}
 use Rattle.std.specs.Prelude.{All, flat_map}
 use Rattle.std.specs.List.{list_all}
 use Rattle.std.proofs.lemmas.Bool.{cases_lt}
 use Rattle.std.proofs.lemmas.Grind.{flat_map-append}
 use Rattle.std.proofs.lemmas.List.{append-nil, drop-drop, take_more}
 use Rattle.std.proofs.lemmas.List.Concat.{flat_map-cons}
-use Rattle.std.proofs.lemmas.List.Elements.{All-push}
+use Rattle.std.proofs.lemmas.List.Elements.{All-nil, All-cons, All-push}
+use Rattle.bk_object.specs.Rows.{in_row}
+use Rattle.bk_object.specs.declared.modes.Modes.{Modes}
 use Rattle.bk_level.specs.Masks.{level_of, FitsFields, categories_of, mask_of-categories_of}
 use Rattle.bk_level.specs.declared.level.Level.TheInside.{Inside}
 use Rattle.bk_image.specs.Spelling.{word_bytes, level_bytes}
@@ -66,3 +68,9 @@ two_more P k below here next n lt =
             | inr second ↦ subst P (omega (arith, second, lt)) next
           ]
     ]
+
+-- the sets of a row by their places are all of them
+pub row_sets : (row : List Modes) → ((subject : ℕ) → subject < length row → (in_row row subject).0 < 16) → All (λ modes. modes.0 < 16) row
+row_sets [] fits = All-nil (λ (modes : Modes). modes.0 < 16)
+row_sets (modes ∷ row) fits =
+    All-cons (λ (modes : Modes). modes.0 < 16) modes row (fits 0 (omega arith)) (row_sets row (λ subject below. fits (suc subject) (omega (arith, below))))

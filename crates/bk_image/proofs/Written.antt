@@ -1,12 +1,9 @@
 -- What is written is an image, and that image.
-use Rattle.std.proofs.Common.{◌≡◌, ℕ, zero, suc, ◌+◌, ◌<◌, ◌≤◌, Bool, true, false, cond, List, [], ◌∷◌, ◌++◌, length, map, take, Result, Ok, Err, refl, sym, ap, subst, ◌∙◌, arith}
-use Rattle.std.specs.Prelude.{◌&&◌, nat_lt, IfOk, All, flat_map}
-use Rattle.std.specs.List.{list_all, range_with_len}
+use Rattle.std.proofs.Common.{◌≡◌, ℕ, Bool, true, false, cond, List, [], ◌∷◌, ◌++◌, length, take, Result, Ok, Err, refl, sym, ap, subst, ◌∙◌, arith}
+use Rattle.std.specs.Prelude.{◌&&◌, nat_lt, IfOk, All}
+use Rattle.std.specs.List.{list_all}
 use Rattle.std.proofs.lemmas.List.{append-nil, take_at}
-use Rattle.std.proofs.lemmas.List.Concat.{flat_map-cons}
 use Rattle.std.proofs.lemmas.List.Elements.{All-nil, All-cons, All-head, All-tail}
-use Rattle.bk_object.specs.Rows.{in_row}
-use Rattle.bk_object.specs.declared.modes.Modes.{Modes}
 use Rattle.bk_state.specs.declared.image.Image.{Image}
 use Rattle.bk_state.specs.declared.image.ObjectRec.{ObjectRec}
 use Rattle.bk_image.specs.declared.fault.ImageFault.{ImageFault}
@@ -14,8 +11,8 @@ use Rattle.bk_image.specs.declared.fault.ImageField.TheVariants as field
 use Rattle.bk_image.specs.declared.fault.ImageStop.{ImageStop}
 use Rattle.bk_image.specs.Parts.{◌>>=◌, Gives}
 use Rattle.bk_image.specs.Image.{image_of}
-use Rattle.bk_image.specs.Spelling.{kind_bytes, row_bytes, level_bytes, subject_bytes, object_bytes, hold_bytes, header_bytes, header_of, spelling}
-use Rattle.bk_image.specs.Writing.{ObjectFits, Fits, blocks_fit, object_fits, counts_fit, with_sets, as_read, written}
+use Rattle.bk_image.specs.Spelling.{spelling}
+use Rattle.bk_image.specs.Writing.{ObjectFits, Fits, blocks_fit, object_fits, counts_fit, written}
 use Rattle.bk_image.proofs.Takes.{bind_ok, ok_is}
 use Rattle.bk_image.proofs.Grown.{image_grows}
 use Rattle.bk_image.proofs.OnlyObjects.{ObjectIsSpelt}
@@ -27,29 +24,21 @@ and_first a b both = grind (arith, both)
 and_second : (a b : Bool) → (a && b) ≡ true → b ≡ true
 and_second a b both = grind (arith, both)
 
--- ---- rows as lists of their sets
-
-row_sets : (row : List Modes) (n first : ℕ) → ((subject : ℕ) → first ≤ subject → subject < first + n → (in_row row subject).0 < 16) → All (λ modes. modes.0 < 16) (map (in_row row) (range_with_len first n))
-row_sets row zero first fits = All-nil (λ (modes : Modes). modes.0 < 16)
-row_sets row (suc n) first fits =
-    All-cons (λ (modes : Modes). modes.0 < 16) (in_row row first) (map (in_row row) (range_with_len (first + 1) n)) (fits first (omega arith) (omega arith))
-    (row_sets row n (first + 1) (λ subject above below. fits subject (omega (arith, above)) (omega (arith, below))))
-
-object_is_spelt : (o : ObjectRec) → ObjectFits o → object_fits o ≡ true → ObjectIsSpelt (with_sets o)
+object_is_spelt : (o : ObjectRec) → ObjectFits o → object_fits o ≡ true → ObjectIsSpelt o
 object_is_spelt o fits test = record {
   path = fits.path;
-  row = record { whole = refl; sets = row_sets o.facts.row 32 0 (λ subject above below. fits.row subject below) };
+  row = fits.row;
   blocks = and_second (nat_lt (length o.words) 65536) (blocks_fit o.facts.kind o.facts.blocks) test;
 }
 
-objects_are_spelt : (objects : List ObjectRec) → All ObjectFits objects → list_all object_fits objects ≡ true → All ObjectIsSpelt (map with_sets objects)
+objects_are_spelt : (objects : List ObjectRec) → All ObjectFits objects → list_all object_fits objects ≡ true → All ObjectIsSpelt objects
 objects_are_spelt [] fits test = All-nil ObjectIsSpelt
 objects_are_spelt (o ∷ objects) fits test =
-    All-cons ObjectIsSpelt (with_sets o) (map with_sets objects)
+    All-cons ObjectIsSpelt o objects
     (object_is_spelt o (All-head ObjectFits o objects fits) (and_first (object_fits o) (list_all object_fits objects) test))
     (objects_are_spelt objects (All-tail ObjectFits o objects fits) (and_second (object_fits o) (list_all object_fits objects) test))
 
-is_writable : (image : Image) → Fits image → counts_fit image ≡ true → IsWritable (as_read image)
+is_writable : (image : Image) → Fits image → counts_fit image ≡ true → IsWritable image
 is_writable image fits counts = record {
   levels = fits.levels;
   subjects = fits.subjects;
@@ -57,53 +46,31 @@ is_writable image fits counts = record {
   holds = fits.holds;
 }
 
-object_bytes-with_sets : (o : ObjectRec) → object_bytes (with_sets o) ≡ object_bytes o
-unfolding object_bytes kind_bytes row_bytes
-object_bytes-with_sets o = refl
-
-objects_spelt : (objects : List ObjectRec) → flat_map object_bytes (map with_sets objects) ≡ flat_map object_bytes objects
-objects_spelt [] = refl
-objects_spelt (o ∷ objects) =
-    flat_map-cons object_bytes (with_sets o) (map with_sets objects)
-    ∙ (λ i. object_bytes-with_sets o i ++ objects_spelt objects i)
-    ∙ sym (flat_map-cons object_bytes o objects)
-
-objects_count : (objects : List ObjectRec) → length (map with_sets objects) ≡ length objects
-objects_count [] = refl
-objects_count (o ∷ objects) = ap suc (objects_count objects)
-
--- the sets say all that is spelt
-spelling-as_read : (image : Image) → spelling (as_read image) ≡ spelling image
-unfolding spelling
-spelling-as_read image = λ i.
-    header_bytes (record (header_of image) { objects = objects_count image.objects i })
-    ++ flat_map level_bytes image.levels ++ image.schedule ++ flat_map subject_bytes image.subjects ++ objects_spelt image.objects i ++ flat_map hold_bytes image.holds
-
 -- ---- what is written
 
 -- where its fields fit, an image's spelling is read as that image alone
-pub image_only : (image : Image) → Fits image → counts_fit image ≡ true → (other : Image) (n : ℕ) → image_of (spelling image) ≡ Ok (other, n) → (other ≡ as_read image) × (n ≡ length (spelling image))
+pub image_only : (image : Image) → Fits image → counts_fit image ≡ true → (other : Image) (n : ℕ) → image_of (spelling image) ≡ Ok (other, n) → (other ≡ image) × (n ≡ length (spelling image))
 image_only image fits counts other n e =
-    let same = spelling_only (as_read image) (is_writable image fits counts) [] (other, n) (ap image_of (append-nil (spelling (as_read image)) ∙ spelling-as_read image) ∙ e) in
-    (λ i. (same i).0, (λ i. (same i).1) ∙ ap length (spelling-as_read image))
+    let same = spelling_only image (is_writable image fits counts) [] (other, n) (ap image_of (append-nil (spelling image)) ∙ e) in
+    (λ i. (same i).0, λ i. (same i).1)
 
 chosen : {A : Type 0} (b : Bool) (r : Result A ImageFault) (d : ImageFault) (y : A) → cond b r (Err d) ≡ Ok y → (b ≡ true) × (r ≡ Ok y)
 chosen true r d y e = (refl, e)
 chosen false r d y e = absurd cc
 
 -- what is written is read as the image to its end, whatever follows
-pub written_again : (image : Image) → Fits image → (bytes : List ℕ) → written image ≡ Ok bytes → (more : List ℕ) → image_of (bytes ++ more) ≡ Ok (as_read image, length bytes)
+pub written_again : (image : Image) → Fits image → (bytes : List ℕ) → written image ≡ Ok bytes → (more : List ℕ) → image_of (bytes ++ more) ≡ Ok (image, length bytes)
 unfolding written
 written_again image fits bytes e more =
     let c = chosen (counts_fit image) (image_of (spelling image) >>= λ i. Ok (spelling image)) (record { at = 0; field = field.Counts }) bytes e in
     let b = bind_ok (image_of (spelling image)) (λ i. Ok (spelling image)) bytes c.1 in
     let only = image_only image fits c.0 b.0.0 b.0.1 b.1 in
-    let found : image_of (spelling image) ≡ Ok (as_read image, length (spelling image)) = b.1 ∙ (λ i. Ok (only.0 i, only.1 i)) in
+    let found : image_of (spelling image) ≡ Ok (image, length (spelling image)) = b.1 ∙ (λ i. Ok (only.0 i, only.1 i)) in
     let whole : take (length (spelling image)) (spelling image) ≡ spelling image = ap (take (length (spelling image))) (sym (append-nil (spelling image))) ∙ take_at (spelling image) [] (length (spelling image)) refl in
-    let again : image_of (spelling image ++ more) ≡ Ok (as_read image, length (spelling image)) = ap (λ (t : List ℕ). image_of (t ++ more)) (sym whole) ∙ image_grows (spelling image) (as_read image) (length (spelling image)) found more in
-    subst (λ (t : List ℕ). image_of (t ++ more) ≡ Ok (as_read image, length t)) (ok_is (spelling image) bytes b.2) again
+    let again : image_of (spelling image ++ more) ≡ Ok (image, length (spelling image)) = ap (λ (t : List ℕ). image_of (t ++ more)) (sym whole) ∙ image_grows (spelling image) image (length (spelling image)) found more in
+    subst (λ (t : List ℕ). image_of (t ++ more) ≡ Ok (image, length t)) (ok_is (spelling image) bytes b.2) again
 
 -- the same of what a function returned
-pub is_written : {Y : Type 0} (image : Image) (view : Y → List ℕ) (r : Result Y ImageStop) → IfOk r (λ y. Fits image) → Gives view r (written image) → IfOk r (λ y. (more : List ℕ) → image_of (view y ++ more) ≡ Ok (as_read image, length (view y)))
+pub is_written : {Y : Type 0} (image : Image) (view : Y → List ℕ) (r : Result Y ImageStop) → IfOk r (λ y. Fits image) → Gives view r (written image) → IfOk r (λ y. (more : List ℕ) → image_of (view y ++ more) ≡ Ok (image, length (view y)))
 is_written image view (Ok y) fits given = written_again image fits (view y) given
 is_written image view (Err e) fits given = tt

@@ -1,10 +1,9 @@
 -- Writing: what doesn't fit its field is refused at 0; then the bytes have to be an image.
-use Rattle.std.specs.Prelude.{◌≡◌, ℕ, ◌<◌, Bool, true, ◌&&◌, ◌==◌, nat_lt, if◌then◌else◌, List, All, length, map, Result, Ok}
-use Rattle.std.specs.List.{list_all, range_with_len}
+use Rattle.std.specs.Prelude.{◌≡◌, ℕ, ◌<◌, Bool, true, ◌&&◌, ◌==◌, nat_lt, if◌then◌else◌, List, All, length, Result, Ok}
+use Rattle.std.specs.List.{list_all}
 use Rattle.bk_level.specs.Levels.{Level}
 use Rattle.bk_level.specs.Masks.{mask_of, categories_of}
 use Rattle.bk_path.specs.Paths.{IsPath}
-use Rattle.bk_object.specs.Rows.{in_row}
 use Rattle.bk_object.specs.declared.modes.Modes.{Modes}
 use Rattle.bk_object.specs.declared.kind.Kind.{Kind}
 use Rattle.bk_object.specs.declared.kind.Kind.TheVariants.{Directory, Segment, Mailbox, Line}
@@ -63,10 +62,14 @@ pub record SubjectFits (s : SubjectRec) : Type 0 where
   pub entries : length s.entries ≡ 8
   pub windows : All WindowFits s.windows
 
--- each subject's set is of the four modes
+-- 32 sets, each of the four modes
+pub record RowFits (row : List Modes) : Type 0 where
+  pub whole : length row ≡ 32
+  pub sets : All (λ modes. modes.0 < 16) row
+
 pub record ObjectFits (o : ObjectRec) : Type 0 where
   pub path : IsPath o.path
-  pub row : (subject : ℕ) → subject < 32 → (in_row o.facts.row subject).0 < 16
+  pub row : RowFits o.facts.row
 
 abbrev pub HoldFits : Hold → Type 0
 HoldFits hold = IsPath hold.path
@@ -76,14 +79,3 @@ pub record Fits (image : Image) : Type 0 where
   pub subjects : All SubjectFits image.subjects
   pub objects : All ObjectFits image.objects
   pub holds : All HoldFits image.holds
-
--- ---- the image as it is read again: each row as the list of its 32 sets
-
-abbrev pub sets_of : List Modes → List Modes
-sets_of row = map (in_row row) (range_with_len 0 32)
-
-abbrev pub with_sets : ObjectRec → ObjectRec
-with_sets o = record o { facts = record o.facts { row = sets_of o.facts.row } }
-
-abbrev pub as_read : Image → Image
-as_read image = record image { objects = map with_sets image.objects }

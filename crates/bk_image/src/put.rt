@@ -6,7 +6,7 @@ ghost use Rattle.bk_object.specs.Kinds.{kind_number};
 ghost use Rattle.bk_object.specs.Rows.{in_row};
 ghost use Rattle.bk_path.specs.Paths.{IsPath};
 ghost use Rattle.bk_image.specs.Spelling.{word_bytes, words_bytes, path_bytes, level_bytes, mode_number, window_bytes, subject_bytes, blocks_byte, kind_bytes, row_byte, row_bytes, object_bytes, hold_bytes};
-ghost use Rattle.bk_image.specs.Writing.{windows_fit, object_fits, LevelFits, WindowFits, SubjectFits, ObjectFits, HoldFits};
+ghost use Rattle.bk_image.specs.Writing.{windows_fit, object_fits, LevelFits, WindowFits, SubjectFits, RowFits, ObjectFits, HoldFits};
 
 use bitflags::Flags;
 use bk_level::{Level, LevelTable};
@@ -148,6 +148,7 @@ fn row_byte(row: &Row, place: u8) -> u8
     ensures value { result ≡ row_byte row.now place }
     ensures low { (in_row row.now (2 * place)).0 < 16 }
     ensures high { (in_row row.now (2 * place + 1)).0 < 16 }
+    ensures sets { length row.now ≡ 32 }
 {
     let low = row.get(2 * place);
     let high = row.get(2 * place + 1);
@@ -157,7 +158,7 @@ fn row_byte(row: &Row, place: u8) -> u8
 #[tactic(auto, unfolding(crate::specs::Spelling::row_bytes))]
 fn put_row(out: &mut Vec<u8>, row: &Row) -> Result<(), AllocError>
     ensures text { OnOk result (out.new.items ≡ out.old.items ++ row_bytes row.now) }
-    ensures fits { OnOk result ((subject : ℕ) → subject < 32 → (in_row row.now subject).0 < 16) }
+    ensures fits { OnOk result (RowFits row.now) }
 {
     for place in 0..16u8 {
         out.push(row_byte(row, place))?;

@@ -5,7 +5,7 @@ ghost use Rattle.std.specs.List.{list_all};
 ghost use Rattle.bk_image.specs.Parts.{Gives};
 ghost use Rattle.bk_image.specs.Image.{image_of};
 ghost use Rattle.bk_image.specs.Spelling.{word_bytes, header_bytes, header_of, spelling};
-ghost use Rattle.bk_image.specs.Writing.{windows_fit, blocks_fit, object_fits, counts_fit, Fits, as_read, written};
+ghost use Rattle.bk_image.specs.Writing.{windows_fit, blocks_fit, object_fits, counts_fit, Fits, written};
 
 use crate::fault::{ImageField, ImageStop};
 use crate::part::bad;
@@ -145,8 +145,8 @@ fn checked_bytes(alloc: Global, image: &Image) -> Result<Vec<u8>, ImageStop>
 pub fn write_image(alloc: Global, image: &Image) -> Result<Vec<u8>, ImageStop>
     // What is written, or why there is nothing to write.
     ensures exact { Gives (λ bytes. bytes.items) result (written image.now) }
-    // What is written is read again as the image, each row as the list of its 32 sets, whatever follows it.
-    ensures again { IfOk result (λ bytes. (more : List ℕ) → image_of (bytes.items ++ more) ≡ Ok (as_read image.now, length bytes.items)) }
+    // What is written is read again as the image, whatever follows it.
+    ensures again { IfOk result (λ bytes. (more : List ℕ) → image_of (bytes.items ++ more) ≡ Ok (image.now, length bytes.items)) }
 {
     checked_bytes(alloc, image)
 }

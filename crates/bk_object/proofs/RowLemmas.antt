@@ -3,6 +3,11 @@ use Rattle.std.proofs.Common.{◌≡◌, ℕ, zero, suc, ◌+◌, ◌*◌, ◌/�
 use Rattle.bk_object.specs.declared.modes.Modes.{Modes}
 use Rattle.bk_object.specs.Pairs.{split_pairs}
 
+-- two sets for each byte
+pub length-split_pairs : (pairs : List ℕ) → length (split_pairs pairs) ≡ length pairs + length pairs
+length-split_pairs [] = refl
+length-split_pairs (pair ∷ pairs) = let rest = length-split_pairs pairs in omega (arith, rest)
+
 pub low_at : (pairs : List ℕ) (k n : ℕ) (other : Modes) → n ≡ k + k → k < length pairs → get_or (split_pairs pairs) n other ≡ record { 0 = get_or pairs k 0 % 16 }
 low_at [] k n other is below = absurd (omega arith)
 low_at (pair ∷ pairs) zero zero other is below = refl

@@ -1,6 +1,6 @@
 // Rows: which subject may hold an object by which modes.
 
-ghost use Rattle.std.specs.Prelude.{◌≡◌, ◌<◌, replicate, slice_set};
+ghost use Rattle.std.specs.Prelude.{◌≡◌, ◌<◌, length, replicate, slice_set};
 ghost use Rattle.bk_object.specs.Modes.{no_modes, union, without};
 ghost use Rattle.bk_object.specs.Rows.{given, in_row, rescinded};
 
@@ -47,6 +47,7 @@ impl Row {
         requires { subject < 32 }
         ensures value { result ≡ in_row self.now subject }
         ensures four { result.0 < 16 }
+        ensures sets { length self.now ≡ 32 }
     {
         let pair = self.pairs[subject as usize / 2];
         if subject % 2 == 0 {
