@@ -8,3 +8,4 @@ pub mod Smallest
 pub mod Start
 pub mod Calls
 pub mod Answers
+pub mod Low

@@ -3,3 +3,4 @@ pub mod Step
 pub mod Turn
 pub mod Slot
 pub mod Report
+pub mod Event
