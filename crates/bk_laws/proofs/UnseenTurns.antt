@@ -1,0 +1,179 @@
+-- No turn of a subject that is not under a level changes what lies under it, or gives an item of it.
+use Rattle.std.proofs.Common.{◌≡◌, ◌≢◌, ℕ, ◌<◌, Bool, true, false, ◌&&◌, not, List, [], ◌∷◌, length, Option, Some, None, refl, sym, ap, ◌∙◌, subst, cond, ◌==◌, arith}
+use Rattle.std.specs.Prelude.{slice_get, slice_index}
+use Rattle.bk_level.specs.Levels.{Level}
+use Rattle.bk_path.specs.Paths.{Path}
+use Rattle.bk_object.specs.Modes.{Write as ByWrite}
+use Rattle.bk_space.specs.AddrSpace.{Write, applied, page_number}
+use Rattle.bk_space.specs.declared.reference.Mode.TheVariants.{Supervisor}
+use Rattle.bk_space.specs.declared.reference.Space.TheVariants.{D}
+use Rattle.bk_space.specs.declared.reference.Width.TheVariants.{Word}
+use Rattle.bk_exec.specs.declared.event.Event.{Event}
+use Rattle.bk_exec.specs.declared.event.Event.TheVariants.{Ran, Call, Fault}
+use Rattle.bk_exec.specs.Exec.{Done, exec}
+use Rattle.bk_exec.specs.Laws.{IsAllowed}
+use Rattle.bk_exec.proofs.WriteLemmas.{exec_allowed}
+use Rattle.bk_process.specs.declared.process.Process.{Process}
+use Rattle.bk_process.specs.declared.status.Status9.{Status9}
+use Rattle.bk_process.specs.declared.status.Status9.TheVariants.{Running, Paused, Stopped}
+use Rattle.bk_report.specs.declared.ReportItem.{ReportItem}
+use Rattle.bk_report.specs.declared.ReportItem.TheVariants as items
+use Rattle.bk_state.specs.State.{State, holds, process_of}
+use Rattle.bk_state.specs.Secure.{Secure}
+use Rattle.bk_state.specs.Answers.{Called, called}
+use Rattle.bk_state.specs.Low.{is_subject_under, low}
+use Rattle.bk_system.specs.Space.{space_of}
+use Rattle.bk_system.specs.Step.{Step, nothing}
+use Rattle.bk_system.specs.Turn.{stored_in, written_by, written, with_process, byte_item, settled, fault_number, less, is_user, is_writable, is_reflected, entered, with_pushes, faulted, ended, took, taken_by, taken, turn_of}
+use Rattle.bk_laws.specs.Seen.{seen_items}
+use Rattle.bk_laws.proofs.SeenByFixed.{items_by}
+use Rattle.bk_laws.proofs.Changes.{slice_get-set_other, status_push, counter_push, written-is, applied-fixed}
+use Rattle.bk_laws.proofs.SecureContents.{secure_written}
+use Rattle.bk_laws.proofs.SecureProcesses.{process_subject}
+use Rattle.bk_laws.proofs.Alike.{low_from_alike}
+use Rattle.bk_laws.proofs.Unseen.{other_subject, high_written}
+use Rattle.bk_laws.proofs.UnseenCalls.{CallsUnseen, contents_changed, unseen_called}
+use Rattle.bk_laws.proofs.Writes.{allowed_held, completes_held}
+
+-- ---- the process of a subject
+
+unseen_process : (level : Level) (v : State) (s : ℕ) (p : Process) → ((j : ℕ) → is_subject_under level v j ≡ true → j ≢ s) → low level v ≡ low level (with_process v s p)
+unseen_process level v s p other = low_from_alike level v _ _ _ (record {
+  process = λ j h. sym (slice_get-set_other v.processes s p j (other j h));
+  holds_same = λ j q mode h. refl;
+  shows_same = λ q. refl;
+  facts = λ q h. refl;
+  contents = λ q. refl;
+})
+
+-- what a step from the state leaves under the level, and tells of it
+pub record StepUnseen (level : Level) (v : State) (step : Step) : Type 0 where
+  pub state : low level v ≡ low level step.state
+  pub items : seen_items level v step.items ≡ []
+
+nothing_unseen : (level : Level) (v : State) → StepUnseen level v (nothing v)
+nothing_unseen level v = record { state = refl; items = refl }
+
+-- ---- a subject that is there, and not under the level
+
+module _ (level : Level) (s : ℕ) where
+  -- the state is secure, and the subject is there and not under the level
+  record IsUnseen (v : State) : Type 0 where
+    secure : Secure v
+    real : s < length v.fixed.subjects
+    blind : is_subject_under level v s ≡ false
+
+  -- a write to what the subject holds by write
+  unseen_written : (v : State) (windows : List (Option Path)) (w : Write) → IsUnseen v →
+      ((path : Path) → slice_get windows (page_number w.mode w.space w.addr) ≡ Some (Some path) → holds v s path ByWrite ≡ true) → low level v ≡ low level (written windows v w)
+  unfolding written
+  unseen_written v windows w subject held = by (slice_get windows (page_number w.mode w.space w.addr)) refl
+    where
+      by : (o : Option (Option Path)) → slice_get windows (page_number w.mode w.space w.addr) ≡ o → low level v ≡ low level (written_by v w o)
+      by None is = refl
+      by (Some None) is = refl
+      by (Some (Some path)) is =
+          let high = high_written level v subject.secure s subject.real subject.blind path (held path is) in
+          contents_changed level v subject.secure s subject.real subject.blind path (stored_in w) high
+
+  unseen_after_write : (v : State) (windows : List (Option Path)) (w : Write) → IsUnseen v → IsUnseen (written windows v w)
+  unseen_after_write v windows w subject = record {
+    secure = secure_written windows v w subject.secure;
+    real = subst (λ f. s < length f.subjects) (sym (applied-fixed windows v (Some w))) subject.real;
+    blind = ap (λ f. is_subject_under level (record v { fixed = f }) s) (applied-fixed windows v (Some w)) ∙ subject.blind;
+  }
+
+  unseen_applied : (v : State) (windows : List (Option Path)) (w : Option Write) → IsUnseen v → IsAllowed (space_of v s windows) w → low level v ≡ low level (applied (written windows) v w)
+  unseen_applied v windows None subject allowed = refl
+  unseen_applied v windows (Some w) subject allowed = unseen_written v windows w subject (λ path shown. allowed_held v s windows w path allowed shown)
+
+  unseen_after_instruction : (v : State) (windows : List (Option Path)) (w : Option Write) → IsUnseen v → IsUnseen (applied (written windows) v w)
+  unseen_after_instruction v windows None subject = subject
+  unseen_after_instruction v windows (Some w) subject = unseen_after_write v windows w subject
+
+  -- the pushes of a reflection
+  unseen_pushes : (v : State) (p : Process) → IsUnseen v →
+      is_writable v s p.windows (less p.registers.supervisor 2) ≡ true → is_writable v s p.windows (less p.registers.supervisor 4) ≡ true → low level v ≡ low level (with_pushes v p)
+  unseen_pushes v p subject first second =
+      unseen_written v p.windows (status_push p) subject (λ path shown. completes_held v s p.windows Supervisor D Word (status_push p).addr path first shown)
+      ∙ unseen_written (written p.windows v (status_push p)) p.windows (counter_push p) (unseen_after_write v p.windows (status_push p) subject)
+      (λ path shown. ap (λ u. holds u s path ByWrite) (written-is p.windows v (status_push p)) ∙ completes_held v s p.windows Supervisor D Word (counter_push p).addr path second shown)
+
+  unseen_after_pushes : (v : State) (p : Process) → IsUnseen v → IsUnseen (with_pushes v p)
+  unseen_after_pushes v p subject = unseen_after_write _ p.windows _ (unseen_after_write v p.windows _ subject)
+
+  -- another process of its own
+  unseen_own : (v : State) (p : Process) → IsUnseen v → low level v ≡ low level (with_process v s p)
+  unseen_own v p subject = unseen_process level v s p (other_subject level v subject.secure s subject.real subject.blind)
+
+  -- ---- what an instruction ends as
+
+  -- an item of the subject is not seen
+  unseen_call_item : (v : State) (slot turn number answer cause : ℕ) (general : List ℕ) (told : List ReportItem) → IsUnseen v → seen_items level v told ≡ [] →
+      seen_items level v (items.Call slot turn s number general answer cause ∷ told) ≡ []
+  unseen_call_item v slot turn number answer cause general told subject rest =
+      ap (λ b. cond b (items.Call slot turn s number general answer cause ∷ seen_items level v told) (seen_items level v told)) subject.blind ∙ rest
+
+  unseen_fault_item : (v : State) (slot turn number pc : ℕ) (reflected : Bool) → IsUnseen v → seen_items level v (items.Fault slot turn s number pc reflected ∷ []) ≡ []
+  unseen_fault_item v slot turn number pc reflected subject = ap (λ b. cond b (items.Fault slot turn s number pc reflected ∷ []) []) subject.blind
+
+  unseen_settled : (v : State) (slot turn : ℕ) (p : Process) (number references : ℕ) (call : Called) → IsUnseen v →
+      CallsUnseen level v slot turn call → StepUnseen level v (settled v slot turn s p number references call)
+  unseen_settled v slot turn p number references call subject unseen = record {
+    state = unseen.state ∙ unseen_process level (record v { objects = call.objects; access = call.access }) s call.process (other_subject level v subject.secure s subject.real subject.blind);
+    items = unseen_call_item v slot turn number _ _ p.registers.general (byte_item slot turn call.sent) subject unseen.byte;
+  }
+
+  -- what a test of four says of the last two
+  last_two : (a b c d : Bool) → (a && b && c && d) ≡ true → (c ≡ true) × (d ≡ true)
+  last_two a b c d all = (grind (arith, all), grind (arith, all))
+
+  -- both words of a reflection could be written
+  writable : (v : State) (p : Process) (entry : ℕ) → is_reflected v s p entry ≡ true →
+      (is_writable v s p.windows (less p.registers.supervisor 2) ≡ true) × (is_writable v s p.windows (less p.registers.supervisor 4) ≡ true)
+  writable v p entry is = last_two (is_user p.registers.ps.mode) (not (entry == 0)) _ _ is
+
+  unseen_faulted : (v : State) (slot turn : ℕ) (p : Process) (number references entry : ℕ) (reflected : Bool) → IsUnseen v → is_reflected v s p entry ≡ reflected →
+      StepUnseen level v (faulted v slot turn s p number references entry reflected)
+  unseen_faulted v slot turn p number references entry true subject is =
+      let (first, second) = writable v p entry is in
+      record {
+        state = unseen_pushes v p subject first second ∙ unseen_own (with_pushes v p) (entered p entry) (unseen_after_pushes v p subject);
+        items = unseen_fault_item v slot turn number p.registers.pc true subject;
+      }
+  unseen_faulted v slot turn p number references entry false subject is = record {
+    state = unseen_own v (record p { status = Stopped number }) subject;
+    items = unseen_fault_item v slot turn number p.registers.pc false subject;
+  }
+
+  unseen_ended : (v : State) (slot turn : ℕ) (p : Process) (references : ℕ) (event : Event) → IsUnseen v → StepUnseen level v (ended v slot turn s p references event)
+  unseen_ended v slot turn p references Ran subject = record { state = unseen_own v p subject; items = refl }
+  unseen_ended v slot turn p references (Call number) subject =
+      unseen_settled v slot turn p number references (called v s p number) subject (unseen_called level v subject.secure s subject.real subject.blind slot turn p number)
+  unseen_ended v slot turn p references (Fault cause) subject =
+      unseen_faulted v slot turn p (fault_number cause) references (slice_index p.entries (fault_number cause)) (is_reflected v s p (slice_index p.entries (fault_number cause))) subject refl
+
+  -- ---- the turn
+
+  unseen_took : (v : State) (slot turn : ℕ) (p : Process) (x : Done) → IsUnseen v → IsAllowed (space_of v s p.windows) x.write → StepUnseen level v (took v slot turn s p x)
+  unseen_took v slot turn p x subject allowed =
+      let after = applied (written p.windows) v x.write in
+      let step = unseen_ended after slot turn (record p { registers = x.regs }) x.references x.outcome (unseen_after_instruction v p.windows x.write subject) in
+      record {
+        state = unseen_applied v p.windows x.write subject allowed ∙ step.state;
+        items = sym (items_by level after v (applied-fixed p.windows v x.write) (took v slot turn s p x).items) ∙ step.items;
+      }
+
+  unseen_taken_by : (v : State) (slot turn : ℕ) (p : Process) (status : Status9) → IsUnseen v → StepUnseen level v (taken_by v slot turn s p status)
+  unseen_taken_by v slot turn p Running subject = unseen_took v slot turn p (exec (space_of v s p.windows) p.registers) subject (exec_allowed (space_of v s p.windows) p.registers)
+  unseen_taken_by v slot turn p Paused subject = nothing_unseen level v
+  unseen_taken_by v slot turn p (Stopped cause) subject = nothing_unseen level v
+
+  unseen_taken : (v : State) (slot turn : ℕ) (o : Option Process) → Secure v → is_subject_under level v s ≡ false → process_of v s ≡ o → StepUnseen level v (taken v slot turn s o)
+  unseen_taken v slot turn None sec blind is = nothing_unseen level v
+  unseen_taken v slot turn (Some p) sec blind is = unseen_taken_by v slot turn p p.status (record { secure = sec; real = process_subject v s p sec is; blind = blind })
+
+  -- a turn of the subject
+  pub unseen_turn : (v : State) (slot turn : ℕ) → Secure v → is_subject_under level v s ≡ false → StepUnseen level v (turn_of slot turn v s)
+  unfolding turn_of
+  unseen_turn v slot turn sec blind = unseen_taken v slot turn (process_of v s) sec blind refl

@@ -1,0 +1,78 @@
+-- What holds of every event, and of every run.
+use Rattle.std.specs.Prelude.{◌≡◌, ◌≤◌, ◌*◌, ℕ, List, [], true, false, length}
+use Rattle.bk_level.specs.Levels.{Level}
+use Rattle.bk_state.specs.declared.image.Image.{Image}
+use Rattle.bk_report.specs.Lines.{line_records_of}
+use Rattle.bk_state.specs.Low.{is_line_under, low}
+use Rattle.bk_state.specs.Secure.{Secure}
+use Rattle.bk_state.specs.Start.{state_of}
+use Rattle.bk_state.specs.State.{State}
+use Rattle.bk_system.specs.declared.script.TypedAt.{TypedAt}
+use Rattle.bk_system.specs.Event.{Event, happens, all_happen, run_events}
+use Rattle.bk_system.specs.Report.{report_of}
+use Rattle.bk_system.specs.Slot.{run_of}
+use Rattle.bk_laws.specs.Seen.{is_seen, seen_events, seen_items, keep}
+
+-- a secure state stays secure, and its fixed part stays
+pub record KeepsSecure (v : State) (event : Event) : Type 0 where
+  pub secure : Secure (happens v event).state
+  pub fixed : (happens v event).state.fixed ≡ v.fixed
+
+-- what is not seen at a level leaves what lies under it, and tells nothing of it
+pub record HappensUnseen (level : Level) (v : State) (event : Event) : Type 0 where
+  pub state : low level (happens v event).state ≡ low level v
+  pub items : seen_items level v (happens v event).items ≡ []
+
+-- what is seen at a level does the same, and tells the same, wherever the same lies under it
+pub record HappensAlike (level : Level) (v w : State) (event : Event) : Type 0 where
+  pub state : low level (happens v event).state ≡ low level (happens w event).state
+  pub items : (happens v event).items ≡ (happens w event).items
+
+-- two runs end with the same under the level, and tell the same of it
+pub record RunAlike (level : Level) (v w : State) (events others : List Event) : Type 0 where
+  pub state : low level (all_happen v events).state ≡ low level (all_happen w others).state
+  pub items : seen_items level v (all_happen v events).items ≡ seen_items level w (all_happen w others).items
+
+abbrev pub LawSecure : Type 0
+LawSecure = (v : State) (event : Event) → Secure v → KeepsSecure v event
+
+-- so every state that is reached from a secure state is secure, with the same fixed part
+abbrev pub LawReached : Type 0
+LawReached = (v : State) (events : List Event) → Secure v → Secure (all_happen v events).state × ((all_happen v events).state.fixed ≡ v.fixed)
+
+abbrev pub LawUnseen : Type 0
+LawUnseen = (level : Level) (v : State) (event : Event) → Secure v → is_seen level v event ≡ false → HappensUnseen level v event
+
+abbrev pub LawSeen : Type 0
+LawSeen = (level : Level) (v w : State) (event : Event) → Secure v → Secure w → low level v ≡ low level w →
+    is_seen level v event ≡ true → HappensAlike level v w event
+
+abbrev pub LawRuns : Type 0
+LawRuns = (level : Level) (v w : State) (events others : List Event) → Secure v → Secure w → low level v ≡ low level w →
+    seen_events level v events ≡ seen_events level w others → RunAlike level v w events others
+
+-- a run from an image is the list of its events
+abbrev pub LawEvents : Type 0
+LawEvents = (image : Image) (records : List TypedAt) (n : ℕ) →
+    run_of image records n ≡ all_happen (state_of image) (run_events (state_of image) records n)
+
+-- a run from an image tells the same of what a level sees as the run without the bytes typed on other lines
+abbrev pub LawKept : Type 0
+LawKept = (level : Level) (image : Image) (records : List TypedAt) (n : ℕ) → Secure (state_of image) →
+    seen_items level (state_of image) (run_of image records n).items
+    ≡ seen_items level (state_of image) (run_of image (keep level (state_of image) records) n).items
+
+-- the limits of an image and of the slots of a script for it
+pub record IsLimited (image : Image) (n : ℕ) : Type 0 where
+  pub subjects : length image.subjects ≤ 32
+  pub lines : image.lines ≤ 16
+  pub turns : image.turns ≤ 4096
+  pub slots : n ≤ 65535
+  pub within : n * image.turns ≤ 4194304
+
+-- so do the line records of its report: those of lines under a level are those of the report of the run without the bytes
+-- typed on other lines
+abbrev pub LawLines : Type 0
+LawLines = (level : Level) (image : Image) (records : List TypedAt) (n : ℕ) → Secure (state_of image) → IsLimited image n →
+    line_records_of (is_line_under level (state_of image)) (report_of image records n)
+    ≡ line_records_of (is_line_under level (state_of image)) (report_of image (keep level (state_of image) records) n)
