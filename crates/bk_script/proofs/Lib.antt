@@ -6,3 +6,4 @@ pub mod Parts
 pub mod Reader
 pub mod Says
 pub mod Spelt
+pub mod Left
