@@ -3,3 +3,4 @@ pub mod Slots
 pub mod Totals
 pub mod Whole
 pub mod Answered
+pub mod Isolated

@@ -2,17 +2,20 @@
 //!
 //! Model: `report_of` of `bk_system`, the report of a run; `specs/Played.antt` (`summary_of`, the totals of a run);
 //! `specs/Replayed.antt` (what the bytes of a run spell, and what each answer says), over `image_of` of `bk_image` and
-//! `script_of` of `bk_script`.
-//! Calls: `play`, `replay`.
+//! `script_of` of `bk_script`; `specs/Isolated.antt` (what isolation says of the bytes of a report), over `keep` of `bk_laws`.
+//! Calls: `play`, `replay`. (`law_kept_script` is an empty function, for its contract.)
 //! Proved: `play` writes exactly the report of the abstract run, or a front of it where the sink fails, and answers its
 //! totals; `replay` does so for the image and the script that its input spells, and refuses any other input with its first
-//! fault.
-//! Stands on: `bk_base`, `bk_image`, `bk_kernel`, `bk_report`, `bk_script`, `bk_state`, `bk_system`.
+//! fault. The report that it writes is isolated: for every level, its line records of lines under the level are those of the
+//! run without the bytes typed on other lines; and the script without those bytes is a script with as many slots.
+//! Stands on: `bk_base`, `bk_image`, `bk_kernel`, `bk_laws`, `bk_level`, `bk_report`, `bk_script`, `bk_state`, `bk_system`.
 #![tactic(auto)]
 
+mod laws;
 mod playing;
 mod replaying;
 
 pub use bk_kernel::Summary;
+pub use laws::law_kept_script;
 pub use playing::{PlayStop, play};
 pub use replaying::{RunStop, replay};

@@ -1,8 +1,9 @@
 // A run from its bytes to its report.
 
-ghost use Rattle.std.specs.Prelude.{◌≡◌, IfSome};
+ghost use Rattle.std.specs.Prelude.{◌≡◌, IfSome, IsOk};
 ghost use Rattle.std.specs.Io.KnownBytes.{Appends};
 ghost use Rattle.bk_base.specs.Outside.{Rose};
+ghost use Rattle.bk_replay.specs.Isolated.{IsIsolated};
 ghost use Rattle.bk_replay.specs.Replayed.{IsAsked, Replayed, TookPart};
 
 use crate::playing::{PlayStop, play};
@@ -77,6 +78,10 @@ pub fn replay<I: Source, O: Sink>(
     ensures answer { Replayed (I.left input.old) (I.left input.new) (out.new ≡ out.old)
         (Rose (I.faults input.old) (I.faults input.new)) (Rose (O.faults out.old) (O.faults out.new))
         (Appends (O.taken out.old) (O.taken out.new)) (TookPart (O.taken out.old) (O.taken out.new)) result }
+
+    // With Ok, for every level, the line records of the lines under it are those of the report of the same image without the
+    // bytes typed on other lines.
+    ensures isolated { IsOk result → IfSome (I.left input.old) (IsIsolated (O.taken out.old) (O.taken out.new)) }
 
     // Where no count rose, the answer is the first fault of the image, or else of the script, or else Ok; or NoMemory.
     ensures complete { (Rose (I.faults input.old) (I.faults input.new) → ⊥) → (Rose (O.faults out.old) (O.faults out.new) → ⊥)

@@ -4,6 +4,7 @@ ghost use Rattle.std.specs.Prelude.{◌≡◌, ◌⊎◌, IfSome, Some, None, []
 ghost use Rattle.std.specs.Io.KnownBytes.{Appends};
 ghost use Rattle.bk_base.specs.Outside.{Rose};
 ghost use Rattle.blpk.specs.Words.{command_of, texts};
+ghost use Rattle.bk_replay.specs.Isolated.{IsIsolated};
 ghost use Rattle.bk_replay.specs.Replayed.{OfReport, TookPart};
 ghost use Rattle.blpk.specs.Causes.{Row, IsRefusal, ByOut, ByErr, expected};
 
@@ -25,6 +26,10 @@ pub fn run_blpk<I: Source, O: Sink, E: Sink>(
     ensures ok { result ≡ Status.Ok → IfSome (I.left input.old) (λ bytes. (I.left input.new ≡ Some [])
         × OfReport (Appends (O.taken out.old) (O.taken out.new)) bytes) }
     ensures quiet { result ≡ Status.Ok → err.new ≡ err.old }
+
+    // For every level, of the bytes that the output took, the line records of the lines under the level are those of the report
+    // of the same image, with as many slots, without the bytes typed on other lines.
+    ensures isolated { result ≡ Status.Ok → IfSome (I.left input.old) (IsIsolated (O.taken out.old) (O.taken out.new)) }
 
     // A status with a line: its cause holds, the error output took the line alone, and the output is untouched.
     ensures refused { IsRefusal result → (line : List ℕ)
