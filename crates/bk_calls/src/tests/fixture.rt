@@ -5,6 +5,8 @@ ghost use Rattle.bk_object.specs.declared.kind.Kind.TheVariants.{Line};
 ghost use Rattle.bk_object.specs.Modes.{no_modes};
 ghost use Rattle.bk_store.specs.Stored.{IsFreeLine};
 
+use super::steps::FIRST;
+use super::{CHILD_0, CHILD_1, CHILD_2, ROOT};
 use crate::{Answer, Caller, LineByte, call};
 use bitflags::Flags;
 use bk_core::Core;
@@ -15,6 +17,7 @@ use bk_process::Process;
 use bk_space::{Mode, Ps, Regs};
 use bk_store::Store;
 use std::alloc::Global;
+use std::process::Abort;
 
 #[derive(Drop)]
 pub(crate) struct System {
@@ -38,38 +41,50 @@ fn facts_of(kind: Kind, blocks: u8, level: u8, quota: u16) -> Facts
     }
 }
 
+// A subject, the first word of a path, the modes that the object there grants it, and those by which it holds it.
+type Grant = (u8, u16, u8, u8);
+
+const BEGUN: [Grant; 3] = [(0, ROOT, 5, 5), (1, ROOT, 1, 1), (1, CHILD_2, 4, 4)];
+
+const SAMPLE: [Grant; 6] = [
+    (0, ROOT, 1, 1),
+    (0, CHILD_0, 3, 2),
+    (0, CHILD_1, 4, 4),
+    (1, ROOT, 1, 1),
+    (1, CHILD_0, 3, 2),
+    (1, CHILD_2, 4, 4),
+];
+
 // Root with a quota of 16 at level 0, below it line 1 as `/2` at level 1, of which subject 1 is granted w and holds it; level 1
 // dominates level 0. Of two subjects the first calls, at level 0; it holds r and w on root, and the second holds r.
-pub(crate) fn begun(alloc: Global) -> Option<System> {
-    let mut core = Core::reserve(alloc).ok()?;
-    let mut store = with_line(alloc, levels()?, &mut core)?;
-    grant(&mut store, 0, Path::root(), 5, 5)?;
-    grant(&mut store, 1, Path::root(), 1, 1)?;
-    grant(&mut store, 1, Path::root().child(2)?, 4, 4)?;
-    Some(called_by_the_first(store, core))
+pub(crate) fn begun(rt: &impl Abort, alloc: Global) -> System {
+    let mut core = Core::reserve(alloc).ok().expect(rt, "memory");
+    let mut store = with_line(alloc, levels(rt), &mut core).expect(rt, "memory");
+    grant_all(&mut store, &BEGUN).expect(rt, "objects");
+    called_by_the_first(store, core)
 }
 
 // The sample: root with a quota of 16, a segment of one block as `/0` and line 0 as `/1`, all at level 0, and line 1 as `/2`
 // at level 1, which dominates level 0. Both subjects are granted r on root and hold it, and are granted r and e on `/0` and
 // hold it by e; the first is granted w on `/1` and the second on `/2`, and they hold that. The first calls, at level 0.
-pub(crate) fn sample(alloc: Global) -> Option<System> {
-    let mut core = Core::reserve(alloc).ok()?;
-    let mut store = with_lines(alloc, &mut core)?;
-    add_segment(&mut store, &mut core, Path::root().child(0)?)?;
-    for subject in 0..2u8 {
-        grant(&mut store, subject, Path::root(), 1, 1)?;
-        grant(&mut store, subject, Path::root().child(0)?, 3, 2)?;
-        grant(&mut store, subject, Path::root().child(subject + 1)?, 4, 4)?;
-    }
-    Some(called_by_the_first(store, core))
+pub(crate) fn sample(rt: &impl Abort, alloc: Global) -> System {
+    let mut core = Core::reserve(alloc).ok().expect(rt, "memory");
+    let mut store = with_lines(rt, alloc, &mut core);
+    add_segment(&mut store, &mut core, CHILD_0).expect(rt, "a segment");
+    grant_all(&mut store, &SAMPLE).expect(rt, "objects");
+    called_by_the_first(store, core)
 }
 
 // Two levels, of which the second dominates the first.
-fn levels() -> Option<LevelTable> {
+fn levels(rt: &impl Abort) -> LevelTable {
     let mut levels = LevelTable::new();
-    levels.push(Level { class: 0, cats: 0 }).ok()?;
-    levels.push(Level { class: 1, cats: 0 }).ok()?;
-    Some(levels)
+    for class in 0..2 {
+        levels
+            .push(Level { class, cats: 0 })
+            .ok()
+            .expect(rt, "room");
+    }
+    levels
 }
 
 fn called_by_the_first(store: Store, core: Core) -> System {
@@ -77,12 +92,7 @@ fn called_by_the_first(store: Store, core: Core) -> System {
         store,
         core,
         process: Process::new(Regs::process(Ps::process(Mode::User, Mode::User))),
-        caller: Caller {
-            subject: 0,
-            f_s: 0,
-            f_c: 0,
-            subjects: 2,
-        },
+        caller: FIRST,
         sent: None,
     }
 }
@@ -105,16 +115,17 @@ fn with_line(alloc: Global, levels: LevelTable, core: &mut Core) -> Option<Store
 }
 
 // A store of root, of line 0 as `/1` at level 0 and of line 1 as `/2` at level 1.
-fn with_lines(alloc: Global, core: &mut Core) -> Option<Store> {
-    let mut store = with_line(alloc, levels()?, core)?;
-    add_line(&mut store, core, Path::root().child(1)?)?;
-    Some(store)
+fn with_lines(rt: &impl Abort, alloc: Global, core: &mut Core) -> Store {
+    let mut store = with_line(alloc, levels(rt), core).expect(rt, "memory");
+    add_line(&mut store, core, CHILD_1).expect(rt, "a line");
+    store
 }
 
-// Line 0, at level 0.
-fn add_line(store: &mut Store, core: &mut Core, path: Path) -> Option<()>
+// Line 0, at level 0, as the path with that first word.
+fn add_line(store: &mut Store, core: &mut Core, first: u16) -> Option<()>
     requires { IsFreeLine store.old (Line 0) }
 {
+    let path = Path::unpack(first, 0)?;
     let parent = store.facts(path.parent()?)?;
     if parent.kind != Kind::Directory || store.level(0).is_none() {
         return None;
@@ -124,8 +135,9 @@ fn add_line(store: &mut Store, core: &mut Core, path: Path) -> Option<()>
         .ok()
 }
 
-// A segment of one block, at level 0.
-fn add_segment(store: &mut Store, core: &mut Core, path: Path) -> Option<()> {
+// A segment of one block, at level 0, as the path with that first word.
+fn add_segment(store: &mut Store, core: &mut Core, first: u16) -> Option<()> {
+    let path = Path::unpack(first, 0)?;
     let parent = store.facts(path.parent()?)?;
     if parent.kind != Kind::Directory || store.level(0).is_none() {
         return None;
@@ -135,8 +147,16 @@ fn add_segment(store: &mut Store, core: &mut Core, path: Path) -> Option<()> {
         .ok()
 }
 
-// The object grants the subject the first modes, and the subject holds it by the second.
-fn grant(store: &mut Store, subject: u8, path: Path, row: u8, held: u8) -> Option<()> {
+fn grant_all(store: &mut Store, grants: &[Grant]) -> Option<()> {
+    for grant in grants {
+        give_and_hold(store, grant)?;
+    }
+    Some(())
+}
+
+fn give_and_hold(store: &mut Store, grant: &Grant) -> Option<()> {
+    let (subject, first, row, held) = *grant;
+    let path = Path::unpack(first, 0)?;
     store.facts(path)?;
     if subject >= 32 {
         return None;
@@ -145,16 +165,6 @@ fn grant(store: &mut Store, subject: u8, path: Path, row: u8, held: u8) -> Optio
     store.facts(path)?;
     store.hold(subject, path, Modes::from_bits_retain(held));
     Some(())
-}
-
-// The subject calls from now on, with those levels.
-pub(crate) fn switch(system: &mut System, subject: u8, f_s: u8, f_c: u8) {
-    system.caller = Caller {
-        subject,
-        f_s,
-        f_c,
-        subjects: 2,
-    };
 }
 
 // The answer to the call with these registers.
