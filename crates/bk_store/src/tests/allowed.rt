@@ -72,38 +72,33 @@ pub(crate) fn delete_group(store: &mut Store, path: Path) -> Option<()> {
     Some(())
 }
 
-pub(crate) fn hold(store: &mut Store, subject: u8, path: Path, modes: Modes) -> Option<()> {
+// A call that changes what is granted and held.
+#[derive(Clone, Copy)]
+pub(crate) enum Call {
+    Give,
+    Hold,
+    Rescind,
+    Release,
+}
+
+// The call for these modes of the object at the path.
+pub(crate) fn change(
+    store: &mut Store,
+    call: Call,
+    path: Path,
+    subject: u8,
+    modes: Modes,
+) -> Option<()> {
     store.facts(path)?;
     if subject >= 32 {
         return None;
     }
-    store.hold(subject, path, modes);
-    Some(())
-}
-
-pub(crate) fn release(store: &mut Store, subject: u8, path: Path, modes: Modes) -> Option<()> {
-    if subject >= 32 {
-        return None;
+    match call {
+        Call::Give => store.give(path, subject, modes),
+        Call::Hold => store.hold(subject, path, modes),
+        Call::Rescind => store.rescind(path, subject, modes),
+        Call::Release => store.release(subject, path, modes),
     }
-    store.release(subject, path, modes);
-    Some(())
-}
-
-pub(crate) fn give(store: &mut Store, path: Path, subject: u8, modes: Modes) -> Option<()> {
-    store.facts(path)?;
-    if subject >= 32 {
-        return None;
-    }
-    store.give(path, subject, modes);
-    Some(())
-}
-
-pub(crate) fn rescind(store: &mut Store, path: Path, subject: u8, modes: Modes) -> Option<()> {
-    store.facts(path)?;
-    if subject >= 32 {
-        return None;
-    }
-    store.rescind(path, subject, modes);
     Some(())
 }
 

@@ -4,7 +4,7 @@ use Rattle.bk_object.specs.Kinds.{is_directory}
 use Rattle.bk_path.specs.Paths.{parent}
 use Rattle.bk_store.specs.Stored.{IsFreeLine}
 use Rattle.bk_store.proofs.Tested.{begun_directory, begun_line}
-use Rattle.bk_store.proofs.tests.with_line.Goals as goal
+use Rattle.bk_store.proofs.tests.bytes_of_line.Goals as goal
 
 pub create-requires-clause-parent : goal.create-requires-clause-parent
 create-requires-clause-parent c =
