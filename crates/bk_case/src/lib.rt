@@ -1,10 +1,11 @@
 //! Cases of the processor with their answers, and whether the project's own calls give them.
 //!
-//! Model: `specs/Agrees.antt` (`Agrees`), over the definitions of `bk_isa`.
+//! Model: `specs/Agrees.antt` (`Agrees`, `IsGiven`), over the definitions of `bk_isa` and `bk_exec`.
 //! Calls: `agrees`, `step_agrees`; `Tally::new`, `count`, `is_clean`.
 //! Proved: a case of a result or of a word agrees exactly where the definitions give its answer, and a tally counts each once.
-//! Of a step the answer is compared with the definition's, and the pages by test alone.
-//! Stands on: `bk_isa`, `bk_word`, `bk_cpu`.
+//! A step agrees only where over some pages the definition gives its registers, event and number of references; that these
+//! are the pages of the case is shown by test alone.
+//! Stands on: `bk_isa`, `bk_word`, `bk_exec`, `bk_cpu`.
 #![tactic(auto)]
 
 mod case;

@@ -2,6 +2,7 @@ ghost use Rattle.std.specs.Prelude.{◌≡◌, ◌↔◌, ◌*◌, IsTrue, IfOk,
 ghost use Rattle.bk_space.specs.Counts.{counted_on};
 ghost use Rattle.bk_exec.specs.Exec.{exec};
 ghost use Rattle.bk_cpu.specs.Plain.{page_in};
+ghost use Rattle.bk_case.specs.Agrees.{IsGiven};
 
 use crate::step_case::{CasePage, Content, StepCase};
 use crate::unread::Unread;
@@ -54,7 +55,9 @@ fn filled(
 }
 
 /// A bus with the pages of the case.
-fn bus_of(alloc: Global, case: &StepCase) -> Result<PlainBus, Unread> {
+fn bus_of(alloc: Global, case: &StepCase) -> Result<PlainBus, Unread>
+    ensures { IfOk result (λ bus. bus.references ≡ 0) }
+{
     let Ok(mut bus) = PlainBus::new(alloc) else {
         return Err(Unread::NoMemory);
     };
@@ -145,8 +148,11 @@ fn gives(bus: &mut PlainBus, before: Regs, after: Regs, event: Event, references
     same_regs(regs, after) && same_event(outcome, event) && bus.references() == references
 }
 
-/// Whether the instruction of the case gives its answer, on a plain bus.
-pub fn step_agrees(alloc: Global, case: &StepCase) -> Result<bool, Unread> {
+/// Whether the instruction of the case gives its answer, on a plain bus. That its pages are those of the case, before the
+/// instruction and after it, no clause says.
+pub fn step_agrees(alloc: Global, case: &StepCase) -> Result<bool, Unread>
+    ensures given { IfOk result (λ agrees. IsTrue agrees → IsGiven case.now) }
+{
     let mut bus = bus_of(alloc, case)?;
     let gives = gives(
         &mut bus,
