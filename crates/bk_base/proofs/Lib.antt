@@ -3,3 +3,7 @@ pub mod Written
 pub mod Totals
 pub mod Distinct
 pub mod MapValues
+pub mod Walks
+pub mod FaultLemmas
+pub mod Fronts
+pub mod Loops

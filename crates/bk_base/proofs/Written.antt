@@ -1,15 +1,15 @@
 -- Writes one after another: what went out, and the front that went out where one failed.
-use Rattle.std.proofs.Common.{inl, inr, ℕ, ◌≤◌, List, [], ◌++◌, sym, ◌∙◌, ap, arith, append_assoc}
+use Rattle.std.proofs.Common.{inl, inr, ℕ, ◌≤◌, List, [], ◌++◌, refl, sym, ◌∙◌, ap, arith, append_assoc}
 use Rattle.std.specs.Prelude.{Option, Result, Ok, Err, OnOk, OnErr}
 use Rattle.std.proofs.KnownBytes.{Appends-nil, Appends-trans}
 use Rattle.bk_base.specs.Outside.{Rose}
 use Rattle.bk_base.specs.Written.{IsFront, Took, Broke}
 
 pub took_nil : (a : Option (List ℕ)) (m : ℕ) → Took a a m m []
-took_nil a m = record { bytes = Appends-nil a; later = omega arith }
+took_nil a m = record { bytes = Appends-nil a; told = refl }
 
 pub took_then : (a b c : Option (List ℕ)) (m n o : ℕ) (s t : List ℕ) → Took a b m n s → Took b c n o t → Took a c m o (s ++ t)
-took_then a b c m n o s t p q = record { bytes = Appends-trans a b c s t p.bytes q.bytes; later = omega (arith, p.later, q.later) }
+took_then a b c m n o s t p q = record { bytes = Appends-trans a b c s t p.bytes q.bytes; told = q.told ∙ p.told }
 
 -- a count that rose after it had not fallen
 pub rose_before : (m n o : ℕ) → m ≤ n → Rose n o → Rose m o
@@ -19,8 +19,8 @@ rose_before m n o later (inr last) = inr last
 pub broke_then : (a b c : Option (List ℕ)) (m n o : ℕ) (s t : List ℕ) → Took a b m n s → Broke b c n o t → Broke a c m o (s ++ t)
 broke_then a b c m n o s t p q = record {
   part = (s ++ q.part.0, (q.part.1.0, ap (λ l. s ++ l) q.part.1.1 ∙ sym (append_assoc s q.part.0 q.part.1.0)), Appends-trans a b c s q.part.0 p.bytes q.part.2);
-  rose = rose_before m n o p.later q.rose;
-  later = omega (arith, p.later, q.later);
+  rose = rose_before m n o (omega (arith, p.told)) q.rose;
+  later = omega (arith, p.told, q.later);
 }
 
 pub front_then : (s t u : List ℕ) → IsFront s t → IsFront t u → IsFront s u

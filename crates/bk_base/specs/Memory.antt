@@ -1,9 +1,11 @@
-use Rattle.std.specs.Prelude.{◌≡◌, ℕ, ◌⊎◌, ◌-◌, ◌++◌, min, List, length, take, drop, Contains}
-use Rattle.bk_base.specs.Outside.{one_more}
+-- The sources and sinks in memory.
+use Rattle.std.specs.Prelude.{◌≡◌, ℕ, ◌⊎◌, ◌-◌, ◌++◌, ◌==◌, min, List, length, take, drop, Contains, Some}
+use Rattle.bk_base.specs.Outside.{SourceState, one_more}
 
--- a source in memory: the bytes left, the most that a call gives, the numbers of the calls that fail,
+-- a source in memory: the bytes given, the bytes left, the most that a call gives, the numbers of the calls that fail,
 -- the number of the next call, and how many failed
 pub record MemInput : Type 0 where
+  pub given : List ℕ
   pub left : List ℕ
   pub piece : ℕ
   pub fails : List ℕ
@@ -16,11 +18,28 @@ given_by s max = min (min max s.piece) (min 4096 (length s.left))
 
 -- the source after a call that gave n bytes
 abbrev pub after_read : MemInput → ℕ → MemInput
-after_read s n = record s { left = drop n s.left; calls = one_more s.calls }
+after_read s n = record s { given = s.given ++ take n s.left; left = drop n s.left; calls = one_more s.calls }
 
 -- the source after a call that failed
 abbrev pub after_fault : MemInput → MemInput
 after_fault s = record s { calls = one_more s.calls; faults = one_more s.faults }
+
+-- what it shows of itself
+abbrev pub shown_of : MemInput → SourceState
+shown_of s = record { left = Some s.left; given = s.given; ended = length s.left == 0; faults = s.faults }
+
+-- a source in memory from which no read fails: the bytes given, and the bytes left
+pub record SteadyInput : Type 0 where
+  pub given : List ℕ
+  pub left : List ℕ
+
+-- the source after a call that gave n bytes
+abbrev pub after_steady_read : SteadyInput → ℕ → SteadyInput
+after_steady_read s n = record { given = s.given ++ take n s.left; left = drop n s.left }
+
+-- what it shows of itself
+abbrev pub shown_steady : SteadyInput → SourceState
+shown_steady s = record { left = Some s.left; given = s.given; ended = length s.left == 0; faults = 0 }
 
 -- a sink in memory: the bytes taken, how many it takes in all, the most that a call takes, the numbers
 -- of the calls that fail, the number of the next call, and how many failed

@@ -12,7 +12,7 @@ pub trait Sink {
     /// How many faults there were; it never falls.
     ghost faults: { Self → ℕ };
 
-    /// Takes the first bytes of a piece, at least one, and says how many. It fails only where the count
+    /// Takes the first bytes of a piece, at least one, and says how many. It fails exactly where the count
     /// of faults rose, and then takes none.
     fn write(&mut self, piece: &[u8]) -> Result<u32, Failed>
         requires { 0 < length piece.now }

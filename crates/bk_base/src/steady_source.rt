@@ -1,5 +1,6 @@
-ghost use Rattle.std.specs.Prelude.{◌≡◌, ◌≤◌, IfOk, IsOk, Some, List, ℕ, Option, length, min, drop};
+ghost use Rattle.std.specs.Prelude.{◌≡◌, ◌≤◌, ◌++◌, IfOk, IsOk, IsTrue, OnErr, OnOk, Ok, Some, [], length, min};
 ghost use Rattle.bk_base.specs.Outside.{Reads, HasCause};
+ghost use Rattle.bk_base.specs.Memory.{after_steady_read, shown_steady};
 
 use crate::buf::Buf;
 use crate::failed::Failed;
@@ -14,11 +15,12 @@ pub struct SteadySource {
 }
 
 impl Model for SteadySource {
-    ghost use Rattle.std.specs.Prelude.{◌≤◌, List, ℕ, drop, vec_len};
+    ghost use Rattle.std.specs.Prelude.{◌≤◌, take, drop, vec_len};
+    ghost use Rattle.bk_base.specs.Memory.{SteadyInput};
 
-    ghost Value = { List ℕ };
+    ghost Value = { SteadyInput };
 
-    ghost view = { λ s. drop s.at s.bytes.items };
+    ghost view = { λ s. record { given = take s.at s.bytes.items; left = drop s.at s.bytes.items } };
 
     ghost invariant = { λ s. s.at ≤ vec_len s.bytes };
 }
@@ -26,24 +28,25 @@ impl Model for SteadySource {
 impl SteadySource {
     /// A source of these bytes.
     pub fn new(bytes: Vec<u8>) -> SteadySource
-        ensures { result ≡ bytes.items }
+        ensures { result ≡ record { given = []; left = bytes.items } }
     {
         SteadySource { bytes, at: 0 }
     }
 }
 
 impl Source for SteadySource {
-    ghost left = { λ s. Some s };
-
-    ghost faults = { λ _. 0 };
+    ghost state = { shown_steady };
 
     /// Gives as many of the next bytes as `max` and the buffer allow.
     fn read(&mut self, max: u32, buf: &mut Buf) -> Result<u32, Failed>
         requires { 1 ≤ max }
-        ensures bytes { IfOk result (λ n. Reads max n (Some self.old) (Some self.new) buf.new) }
+        ensures bytes { IfOk result (λ n. Reads max n (Some self.old.left) (Some self.new.left) buf.new) }
+        ensures given { OnOk result (self.new.given ≡ self.old.given ++ buf.new) }
+        ensures ended { result ≡ Ok 0 → IsTrue (shown_steady self.new).ended }
+        ensures kept { OnErr result (self.new.given ≡ self.old.given) }
         ensures cause { HasCause 0 0 result }
         ensures steady { IsOk result }
-        ensures given { IfOk result (λ n. (n ≡ min max (min 4096 (length self.old))) × (self.new ≡ drop n self.old)) }
+        ensures after { IfOk result (λ n. (n ≡ min max (min 4096 (length self.old.left))) × (self.new ≡ after_steady_read self.old n)) }
     {
         let (_, rest) = self.bytes.split_at(self.at);
         let n = buf.copy_from(max, rest);

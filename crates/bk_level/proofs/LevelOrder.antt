@@ -1,45 +1,10 @@
--- The order of levels, by its tests and by its facts.
-use Rattle.std.proofs.Common.{◌≡◌, ℕ, Bool, true, false, ◌&&◌, ◌||◌, List, [], ◌∷◌, refl, sym, ap, ◌∙◌, ◌==◌, nat_le, arith}
-use Rattle.std.specs.List.{list_any, list_all}
+-- Dominance by its test and by its fact.
+use Rattle.std.proofs.Common.{◌≡◌, ℕ, Bool, true, sym, ◌∙◌, ◌==◌, nat_le, arith}
 use Rattle.std.proofs.lemmas.Bool.Decides.{nat_tests}
 use Rattle.std.proofs.lemmas.Cmp.{nat_eq_equiv}
 use Rattle.std.proofs.lemmas.Map.Views.{Contains-from_any, list_any-from_Contains}
-use Rattle.bk_level.specs.Levels.{Level, HasCategory, has_category, Dominates, dominates}
-
-pub and_first : (a b : Bool) → (a && b) ≡ true → a ≡ true
-and_first a b both = grind (arith, both)
-
-pub and_second : (a b : Bool) → (a && b) ≡ true → b ≡ true
-and_second a b both = grind (arith, both)
-
-pub and_both : (a b : Bool) → a ≡ true → b ≡ true → (a && b) ≡ true
-and_both a b first second = grind (arith, first, second)
-
-abbrev pub contains : ℕ → List ℕ → Bool
-contains c xs = list_any (λ d. c == d) xs
-
-pub all_from : (p : ℕ → Bool) (xs : List ℕ) → ((c : ℕ) → contains c xs ≡ true → p c ≡ true) → list_all p xs ≡ true
-all_from p [] each = refl
-all_from p (x ∷ xs) each = and_both (p x) (list_all p xs) (each x (grind (arith, nat_tests))) (all_from p xs (λ c here. each c (grind (arith, nat_tests, here))))
-
-pub all_at : (p : ℕ → Bool) (xs : List ℕ) (c : ℕ) → list_all p xs ≡ true → contains c xs ≡ true → p c ≡ true
-all_at p [] c all here = cc
-all_at p (x ∷ xs) c all here = by (c == x) refl here (all_at p xs c (and_second (p x) (list_all p xs) all))
-  where
-    by : (b : Bool) → (c == x) ≡ b → (b || contains c xs) ≡ true → (contains c xs ≡ true → p c ≡ true) → p c ≡ true
-    by true same found rest = let e : x ≡ c = grind (arith, nat_tests, same) in ap p (sym e) ∙ and_first (p x) (list_all p xs) all
-    by false same found rest = rest found
-
-pub dominates-itself : (a : Level) → dominates a a ≡ true
-dominates-itself a = and_both _ _ (grind (arith, nat_tests)) (all_from _ a.categories (λ c here. here))
-
-pub dominates-trans : (a b c : Level) → dominates a b ≡ true → dominates b c ≡ true → dominates a c ≡ true
-dominates-trans a b c ab bc =
-    let class_ab = and_first (nat_le b.class a.class) _ ab in
-    let class_bc = and_first (nat_le c.class b.class) _ bc in
-    let cats_ab = and_second (nat_le b.class a.class) _ ab in
-    let cats_bc = and_second (nat_le c.class b.class) _ bc in
-    and_both _ _ (grind (arith, nat_tests, class_ab, class_bc)) (all_from _ c.categories (λ d here. all_at _ b.categories d cats_ab (all_at _ c.categories d cats_bc here)))
+use Rattle.bk_level.specs.Levels.{Level, HasCategory, has_category, Dominates, dominates, is_same_level}
+pub use Rattle.bk_level.specs.Sameness.{and_first, and_second, and_both, contains, all_from, all_at, dominates-itself, dominates-trans, is_same_level-itself}
 
 same : (x y : ℕ) → (x == y) ≡ true → x ≡ y
 same x y e = grind (arith, nat_tests, e)
@@ -64,3 +29,7 @@ dominates-from above below is = and_both _ _ (let le = is.class in grind (arith,
 -- the test is true exactly where the fact holds
 pub dominates_both : (above below : Level) (answer : Bool) → answer ≡ dominates above below → (answer ≡ true → Dominates above below) × (Dominates above below → answer ≡ true)
 dominates_both above below answer is = (λ e. Dominates-from above below (sym is ∙ e), λ d. is ∙ dominates-from above below d)
+
+-- the same level by its test, and by dominance both ways
+pub both-from_same : (a b : Level) → is_same_level a b ≡ true → (dominates a b ≡ true) × (dominates b a ≡ true)
+both-from_same a b same = (and_first (dominates a b) _ same, and_second (dominates a b) _ same)

@@ -4,14 +4,12 @@ use Rattle.std.specs.Prelude.{bit_and}
 use Rattle.std.specs.Int.{bit_at}
 use Rattle.std.specs.List.{list_all}
 use Rattle.std.specs.Cmp.{both_ways}
-use Rattle.std.specs.Cmp.Lexicographic.{pointwise, same_text}
 use Rattle.std.proofs.lemmas.Bool.Decides.{nat_tests}
-use Rattle.std.proofs.lemmas.Cmp.{nat_list_eq_equiv}
 use Rattle.std.proofs.lemmas.Nat.{and_le_l, and_comm}
 use Rattle.std.proofs.lemmas.Nat.Bits.{bit_at_and, same_from_bits_below, bit_at-lt}
-use Rattle.bk_level.proofs.LevelOrder.{contains, all_from, all_at, and_first, and_second, and_both, dominates-from}
+use Rattle.bk_level.proofs.LevelOrder.{contains, all_from, all_at, and_first, and_second, and_both, dominates-from, Dominates-from, both-from_same, is_same_level-itself}
 use Rattle.bk_level.specs.Levels.{Level, Dominates, dominates, is_same_level}
-use Rattle.bk_level.specs.Masks.{categories_of, numbers_from, mask_of-categories_of, mask_of}
+use Rattle.bk_level.specs.Masks.{categories_of, numbers_from}
 
 contains-filter : (p : ℕ → Bool) (xs : List ℕ) (c : ℕ) → contains c (filter p xs) ≡ (contains c xs && p c)
 contains-filter p [] c = refl
@@ -82,23 +80,6 @@ dominates_by_masks x y a b le small_a small_b = mask_in a b small_a small_b ∙ 
     first true e = refl
     first false e = cc
 
--- two masks are the same exactly where their categories are
-pub same_masks : (a b : ℕ) → a < 2 ^ 16 → b < 2 ^ 16 → (a == b) ≡ pointwise ◌==◌ (categories_of a) (categories_of b)
-same_masks a b small_a small_b = both_ways _ _
-    (λ e. let same = eq_from a b e in subst (λ c. pointwise ◌==◌ (categories_of a) (categories_of c) ≡ true) same (nat_list_eq_equiv.refl (categories_of a)))
-    (λ e. eq_true a b (sym (mask_of-categories_of a small_a) ∙ ap mask_of (same_list (categories_of a) (categories_of b) e) ∙ mask_of-categories_of b small_b))
-  where
-    same_list : (xs ys : List ℕ) → pointwise ◌==◌ xs ys ≡ true → xs ≡ ys
-    same_list xs ys e = same_text xs ys (sym e)
-
--- where the classes are the same the masks decide
-pub same_levels : (x y a b : ℕ) → x ≡ y → a < 2 ^ 16 → b < 2 ^ 16 → (a == b) ≡ is_same_level (record { class = x; categories = categories_of a }) (record { class = y; categories = categories_of b })
-same_levels x y a b e small_a small_b = same_masks a b small_a small_b ∙ first (x == y) (eq_true x y e)
-  where
-    first : (t : Bool) → t ≡ true → pointwise ◌==◌ (categories_of a) (categories_of b) ≡ (t && pointwise ◌==◌ (categories_of a) (categories_of b))
-    first true e = refl
-    first false e = cc
-
 -- two levels of masks that dominate each other are the same
 pub same_from_both : (x y a b : ℕ) → a < 2 ^ 16 → b < 2 ^ 16 →
     Dominates (record { class = x; categories = categories_of a }) (record { class = y; categories = categories_of b }) →
@@ -115,3 +96,41 @@ same_from_both x y a b small_a small_b up down =
 pub level_same : (x y a b : ℕ) → (x ≡ y) × (a ≡ b) →
     (let level : Level = record { class = x; categories = categories_of a } in level) ≡ record { class = y; categories = categories_of b }
 level_same x y a b same = λ i. record { class = same.0 i; categories = categories_of (same.1 i) }
+
+-- two levels of masks are the same exactly where class and mask are
+pub same_levels : (x y a b : ℕ) → a < 2 ^ 16 → b < 2 ^ 16 →
+    ((x == y) && (a == b)) ≡ is_same_level (record { class = x; categories = categories_of a }) (record { class = y; categories = categories_of b })
+same_levels x y a b small_a small_b = both_ways _ _ there back
+  where
+    one : Level
+    one = record { class = x; categories = categories_of a }
+
+    other : Level
+    other = record { class = y; categories = categories_of b }
+
+    there : ((x == y) && (a == b)) ≡ true → is_same_level one other ≡ true
+    there both = subst (λ level. is_same_level one level ≡ true) (level_same x y a b (eq_from x y (and_first (x == y) (a == b) both), eq_from a b (and_second (x == y) (a == b) both))) (is_same_level-itself one)
+
+    back : is_same_level one other ≡ true → ((x == y) && (a == b)) ≡ true
+    back same =
+        let (up, down) = both-from_same one other same in
+        let (class, mask) = same_from_both x y a b small_a small_b (Dominates-from one other up) (Dominates-from other one down) in
+        and_both (x == y) (a == b) (eq_true x y class) (eq_true a b mask)
+
+-- where the classes are the same the masks decide
+pub same_where : (x y a b : ℕ) → a < 2 ^ 16 → b < 2 ^ 16 → x ≡ y →
+    (a == b) ≡ is_same_level (record { class = x; categories = categories_of a }) (record { class = y; categories = categories_of b })
+same_where x y a b small_a small_b same = first (x == y) (eq_true x y same) ∙ same_levels x y a b small_a small_b
+  where
+    first : (t : Bool) → t ≡ true → (a == b) ≡ (t && (a == b))
+    first true e = refl
+    first false e = cc
+
+-- levels of two classes are two
+pub other_whole : (x y a b : ℕ) → a < 2 ^ 16 → b < 2 ^ 16 → ¬ (x ≡ y) →
+    (x == y) ≡ is_same_level (record { class = x; categories = categories_of a }) (record { class = y; categories = categories_of b })
+other_whole x y a b small_a small_b other = first (x == y) refl ∙ same_levels x y a b small_a small_b
+  where
+    first : (t : Bool) → (x == y) ≡ t → t ≡ (t && (a == b))
+    first true e = absurd (other (eq_from x y e))
+    first false e = refl

@@ -1,10 +1,8 @@
 -- Levels: a class and a set of categories, and when one dominates another.
 use Rattle.std.specs.Prelude.{ℕ, ◌≤◌, Bool, ◌&&◌, ◌==◌, nat_le, List, [], Contains, slice_index_or}
 use Rattle.std.specs.List.{list_any, list_all}
-use Rattle.std.specs.Ordering.{on, eq_of_both}
-use Rattle.std.specs.Cmp.Lexicographic.{pointwise}
 
--- a class, and a list of categories, of which the order does not matter
+-- a class, and a set of categories, given by a list in which neither order nor repetition matters
 pub record Level : Type 0 where
   pub class : ℕ
   pub categories : List ℕ
@@ -18,6 +16,7 @@ pub record Dominates (above below : Level) : Type 0 where
   pub class : below.class ≤ above.class
   pub categories : (category : ℕ) → HasCategory below category → HasCategory above category
 
+-- `HasCategory` as a test
 abbrev pub has_category : Level → ℕ → Bool
 has_category level category = list_any (λ c. category == c) level.categories
 
@@ -25,9 +24,17 @@ has_category level category = list_any (λ c. category == c) level.categories
 abbrev pub dominates : (above below : Level) → Bool
 dominates above below = nat_le below.class above.class && list_all (has_category above) below.categories
 
--- the same class and the same list of categories
+-- the same level: each dominates the other, so they have the same class and the same set of categories
 abbrev pub is_same_level : Level → Level → Bool
-is_same_level = eq_of_both (on (λ level. level.class) ◌==◌) (on (λ level. level.categories) (pointwise ◌==◌))
+is_same_level a b = dominates a b && dominates b a
+
+-- a level of the list is the same level
+abbrev pub has_level : List Level → Level → Bool
+has_level levels level = list_any (λ other. is_same_level other level) levels
+
+-- how many levels a table has at most
+abbrev pub most_levels : ℕ
+most_levels = 64
 
 -- the level with class 0 and no categories, which stands for a number that is past the end of a list
 abbrev pub lowest : Level

@@ -1,3 +1,4 @@
 pub mod Levels
+pub mod Sameness
 pub mod Masks
 pub mod Tables

@@ -1,9 +1,9 @@
 // A level, its class in a byte and its categories in a mask.
 
-ghost use Rattle.std.specs.Prelude.{◌≡◌, ◌↔◌, ℕ, IsTrue};
-ghost use Rattle.std.proofs.Common.{rules};
-ghost use Rattle.std.specs.Cmp.Rules.{comparing};
+ghost use Rattle.std.specs.Prelude.{◌≡◌, ◌↔◌, ℕ, [], ◌∷◌, true, false, IsTrue};
+ghost use Rattle.std.specs.Cmp.{partial_equiv_from_equiv};
 ghost use Rattle.bk_level.specs.Levels as model;
+ghost use Rattle.bk_level.specs.Sameness.{is_same_level-equiv};
 
 use std::marker::Model;
 
@@ -35,7 +35,7 @@ impl Model for Level {
 impl PartialEq for Level {
     ghost eq = { model.is_same_level };
 
-    ghost laws = { Prim.search (comparing, rules) };
+    ghost laws = { partial_equiv_from_equiv is_same_level-equiv };
 
     fn eq(&self, other: &Level) -> bool {
         self.class == other.class && self.cats == other.cats
@@ -43,7 +43,7 @@ impl PartialEq for Level {
 }
 
 impl Eq for Level {
-    ghost laws = { Prim.search (comparing, rules) };
+    ghost laws = { is_same_level-equiv };
 }
 
 impl Level {
@@ -78,6 +78,16 @@ pub fn law_antisymmetric(a: Level, b: Level)
     let _ = &a.class;
     let _ = &b.class;
 }
+
+/// Levels worked by hand: classes 2 and 1 with categories 0 and 1. Each dominates what it has all of; neither of two with other
+/// categories dominates; the order of categories, and one that is named twice, make no other level.
+pub fn law_example()
+    ensures above { model.dominates (record { class = 2; categories = 0 ∷ 1 ∷ [] }) (record { class = 1; categories = 1 ∷ [] }) ≡ true }
+    ensures apart { model.dominates (record { class = 2; categories = 0 ∷ [] }) (record { class = 1; categories = 1 ∷ [] }) ≡ false }
+    ensures below { model.dominates (record { class = 1; categories = 1 ∷ [] }) (record { class = 2; categories = 1 ∷ [] }) ≡ false }
+    ensures same { model.is_same_level (record { class = 1; categories = 0 ∷ 1 ∷ [] }) (record { class = 1; categories = 1 ∷ 0 ∷ 1 ∷ [] }) ≡ true }
+    ensures other { model.is_same_level (record { class = 1; categories = 0 ∷ 1 ∷ [] }) (record { class = 1; categories = 0 ∷ [] }) ≡ false }
+{}
 
 #[cfg(test)]
 mod tests {

@@ -1,18 +1,21 @@
 // The list of an image's levels, by whose places objects and subjects name theirs.
 
-ghost use Rattle.std.specs.Prelude.{◌≡◌, ◌≤◌, ◌↔◌, [], ◌∷◌, ◌++◌, length, Contains, IsTrue, IsNone, OnOk, OnErr, slice_get};
-ghost use Rattle.std.specs.List.{list_any, IsDistinct};
-ghost use Rattle.bk_level.specs.Levels.{is_same_level};
+ghost use Rattle.std.specs.Prelude.{◌≡◌, ◌≤◌, ◌↔◌, [], ◌∷◌, ◌++◌, length, IsTrue, OnOk, OnErr, slice_get};
+ghost use Rattle.std.specs.List.{IsDistinct};
+ghost use Rattle.bk_level.specs.Levels.{has_level, is_same_level, most_levels};
 
 use crate::Level;
 use std::marker::Model;
+
+/// How many levels a table has at most.
+pub const MOST_LEVELS: usize = 64;
 
 /// At most 64 levels, no two the same. A level's number is its place in the table.
 ///
 /// A clause sees it as the list of its levels.
 #[derive(Clone, Copy, Debug)]
 pub struct LevelTable {
-    levels: [Level; 64],
+    levels: [Level; MOST_LEVELS],
     len: u8,
 }
 
@@ -48,7 +51,7 @@ impl LevelTable {
         ensures { result ≡ [] }
     {
         LevelTable {
-            levels: [Level { class: 0, cats: 0 }; 64],
+            levels: [Level { class: 0, cats: 0 }; MOST_LEVELS],
             len: 0,
         }
     }
@@ -59,13 +62,13 @@ impl LevelTable {
         ensures err { OnErr result (self.new ≡ self.old) }
 
         // Doubled goes before Full.
-        ensures doubled { (result ≡ Err LevelNo.Doubled) ↔ Contains self.old level }
-        ensures full { (result ≡ Err LevelNo.Full) ↔ ((length self.old ≡ 64) × ¬ Contains self.old level) }
+        ensures doubled { (result ≡ Err LevelNo.Doubled) ↔ IsTrue (has_level self.old level) }
+        ensures full { (result ≡ Err LevelNo.Full) ↔ ((length self.old ≡ most_levels) × ¬ IsTrue (has_level self.old level)) }
     {
         if self.has(level) {
             return Err(LevelNo::Doubled);
         }
-        if self.len == 64 {
+        if self.len as usize == MOST_LEVELS {
             return Err(LevelNo::Full);
         }
         self.levels[self.len as usize] = level;
@@ -87,7 +90,7 @@ impl LevelTable {
     /// How many levels there are.
     pub fn len(&self) -> u8
         ensures value { result ≡ length self.now }
-        ensures few { length self.now ≤ 64 }
+        ensures few { length self.now ≤ most_levels }
         ensures distinct { IsDistinct is_same_level self.now }
     {
         self.len
@@ -95,8 +98,7 @@ impl LevelTable {
 
     // Whether the level stands in the table.
     fn has(&self, level: Level) -> bool
-        ensures value { result ≡ list_any (λ other. is_same_level other level) self.now }
-        ensures fact { IsTrue result ↔ Contains self.now level }
+        ensures { result ≡ has_level self.now level }
     {
         self.levels[..self.len as usize].contains(&level)
     }

@@ -28,8 +28,12 @@ modes_where test = record {
   0 = (if test Read then 1 else 0) + (if test Execute then 2 else 0) + (if test Write then 4 else 0) + (if test Append then 8 else 0);
 }
 
+-- the empty set, and the set of one mode
 abbrev pub no_modes : Modes
 no_modes = record { 0 = 0 }
+
+abbrev pub only : Mode → Modes
+only mode = record { 0 = mode_number mode }
 
 -- the modes of either
 abbrev pub union : Modes → Modes → Modes

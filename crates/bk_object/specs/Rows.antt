@@ -1,7 +1,15 @@
 -- Rows: a list of the modes that an object grants to each subject.
-use Rattle.std.specs.Prelude.{ℕ, List, slice_index_or, slice_set}
+use Rattle.std.specs.Prelude.{ℕ, List, replicate, slice_index_or, slice_set}
 use Rattle.bk_object.specs.declared.modes.Modes.{Modes}
 use Rattle.bk_object.specs.Modes.{no_modes, union, without}
+
+-- how many subjects a system has at most; a row has a set of modes for each
+abbrev pub most_subjects : ℕ
+most_subjects = 32
+
+-- the row that grants nothing to anybody
+abbrev pub empty_row : List Modes
+empty_row = replicate most_subjects no_modes
 
 -- the subject's modes
 abbrev pub in_row : List Modes → (subject : ℕ) → Modes

@@ -1,8 +1,13 @@
 //! Objects: their kinds, access modes, rows, and the facts that are kept of each.
 //!
-//! Model: `specs/Modes.antt` (`Mode`, `has`, `union`, `without`), `specs/Kinds.antt` (`kind_modes`, `is_directory`, `is_segment`, `is_mailbox`, `is_any_line`), `specs/Rows.antt` (`in_row`, `given`, `rescinded`).
+//! Model: `specs/Modes.antt` (`Mode`, `has`, `union`, `without`), `specs/Kinds.antt` (`kind_modes`, `is_directory`, `is_segment`,
+//! `is_mailbox`, `is_any_line`), `specs/Rows.antt` (`in_row`, `given`, `rescinded`), `specs/Limits.antt` (how large objects can
+//! be), `specs/Pairs.antt` (a row as the field of the code).
 //! Calls: `Kind::modes`; `Row::new`, `get`, `add`, `remove`; `Modes::is_within`, and the operations of `Modes` as flags.
+//! (`law_modes` is an empty function, for its contract.)
 //! Proved: a row answers for each subject what was added to it and not removed since; each kind has its modes.
+//! Tested: that modes and rows work together through `Flags`.
+//! Neither: nothing.
 //! Stands on: `bitflags`.
 #![tactic(auto)]
 
@@ -16,4 +21,4 @@ mod tests;
 pub use facts::{Facts, Slot};
 pub use kind::Kind;
 pub use modes::{Modes, law_modes};
-pub use row::Row;
+pub use row::{MOST_SUBJECTS, Row};

@@ -1,5 +1,7 @@
 -- A path as the fields of the code: the two words that it is packed in.
-use Rattle.std.specs.Prelude.{◌≡◌, ℕ, zero, suc, ◌+◌, ◌*◌, ◌/◌, ◌%◌, ◌^◌, ◌<◌, ◌≤◌, Bool, true, ◌&&◌, List, [], ◌∷◌, length, take, drop, reverse, get_or, ◌==◌, refl}
+use Rattle.std.specs.Prelude.{◌≡◌, ℕ, zero, suc, ◌+◌, ◌*◌, ◌/◌, ◌%◌, ◌^◌, ◌<◌, ◌≤◌, Bool, true, ◌&&◌, List, [], ◌∷◌, length, take, drop, reverse}
+use Rattle.std.specs.Prelude.{get_or, ◌==◌, refl}
+use Rattle.std.specs.Cmp.{first_so, second_so}
 use Rattle.std.specs.List.{list_all}
 use Rattle.std.proofs.Common.{ap, ◌∙◌, arith, length-take-le}
 use Rattle.std.proofs.lemmas.Bool.Decides.{nat_tests}
@@ -18,20 +20,15 @@ pub record IsPacked (words : Inside) : Type 0 where
 abbrev pub path_of : Inside → Path
 path_of words = reverse (take (words.first / 4096) (entries_of words.first words.second))
 
+-- the two words of a path, as the fields of the code
 abbrev pub packed : Path → Inside
 packed path = record { first = (pack path).0; second = (pack path).1 }
-
-and_first : (a b : Bool) → (a && b) ≡ true → a ≡ true
-and_first a b both = grind (arith, both)
-
-and_second : (a b : Bool) → (a && b) ≡ true → b ≡ true
-and_second a b both = grind (arith, both)
 
 -- zeros are read as what stands past the end
 all_zero : (xs : List ℕ) (i : ℕ) → list_all (λ entry. entry == 0) xs ≡ true → 0 ≡ get_or xs i 0
 all_zero [] i zeros = refl
-all_zero (x ∷ xs) zero zeros = grind (arith, nat_tests, and_first (x == 0) (list_all (λ entry. entry == 0) xs) zeros)
-all_zero (x ∷ xs) (suc i) zeros = all_zero xs i (and_second (x == 0) (list_all (λ entry. entry == 0) xs) zeros)
+all_zero (x ∷ xs) zero zeros = grind (arith, nat_tests, first_so (x == 0) (list_all (λ entry. entry == 0) xs) zeros)
+all_zero (x ∷ xs) (suc i) zeros = all_zero xs i (second_so (x == 0) (list_all (λ entry. entry == 0) xs) zeros)
 
 -- what is cut off is zeros
 cut_zeros : (depth : ℕ) (xs : List ℕ) (i : ℕ) → list_all (λ entry. entry == 0) (drop depth xs) ≡ true → get_or (take depth xs) i 0 ≡ get_or xs i 0

@@ -1,10 +1,12 @@
 -- Paths, the last entry first: root is [], and the parent of a path is its tail.
-use Rattle.std.specs.Prelude.{◌≡◌, ℕ, ◌+◌, ◌*◌, ◌/◌, ◌%◌, Bool, true, false, ◌&&◌, ◌||◌, List, [], ◌∷◌, ◌++◌, length, take, drop, reverse, get_or, Option, Some, None, ◌==◌, nat_le, nat_lt, if◌then◌else◌}
+use Rattle.std.specs.Prelude.{◌≡◌, ℕ, ◌+◌, ◌*◌, ◌/◌, ◌%◌, Bool, true, false, ◌&&◌, ◌||◌, List, [], ◌∷◌, ◌++◌, length, take, drop, reverse}
+use Rattle.std.specs.Prelude.{get_or, Option, Some, None, ◌==◌, nat_le, nat_lt, if◌then◌else◌}
 use Rattle.std.specs.List.{list_all}
 use Rattle.std.specs.Ordering.{nat_cmp, eq_by_cmp}
 use Rattle.std.specs.Cmp.Lexicographic.{slice_cmp}
 use Rattle.std.specs.declared.cmp.Ordering.{Ordering}
 
+-- the entries, the last one first
 abbrev pub Path : Type 0
 Path = List ℕ
 
@@ -20,9 +22,11 @@ IsPath path = is_path path ≡ true
 abbrev pub path_cmp : Path → Path → Ordering
 path_cmp p q = slice_cmp nat_cmp (reverse p) (reverse q)
 
+-- the two paths have the same entries
 abbrev pub is_same : Path → Path → Bool
 is_same p q = eq_by_cmp (slice_cmp nat_cmp) p q
 
+-- the path has no entry
 abbrev pub is_root : Path → Bool
 is_root [] = true
 is_root (entry ∷ path) = false

@@ -3,6 +3,7 @@ use Rattle.std.specs.Prelude.{◌≡◌, ℕ, ◌≤◌, true, List, length, tak
 use Rattle.std.specs.List.{list_all}
 use Rattle.bk_path.specs.Paths.{Path}
 
+-- the entries are those of the path, with zeros behind them
 pub record Spells (entries : List ℕ) (path : Path) : Type 0 where
   pub seven : length entries ≡ 7
   pub depth : length path ≤ 7

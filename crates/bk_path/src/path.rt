@@ -1,8 +1,10 @@
 // A path, kept as the two words that it is packed in.
 
-ghost use Rattle.std.specs.Prelude.{◌≡◌, ◌≢◌, ◌≤◌, ◌<◌, ◌^◌, ◌+◌, ◌*◌, ◌⊎◌, ◌↔◌, ◌==◌, nat_lt, [], ◌∷◌, ℕ, List, length, reverse, take, drop, Some, refl, slice_get, IsTrue, IsNone, IfSome, true};
+ghost use Rattle.std.specs.Prelude.{◌≡◌, ◌≢◌, ◌≤◌, ◌<◌, ◌^◌, ◌+◌, ◌*◌, ◌⊎◌, ◌↔◌, ◌==◌, nat_lt, [], ◌∷◌, ℕ, List, length, reverse, take, drop};
+ghost use Rattle.std.specs.Prelude.{Some, None, refl, slice_get, IsTrue, IsNone, IfSome, true, false};
 ghost use Rattle.std.specs.List.{list_all};
 ghost use Rattle.std.specs.Cmp;
+ghost use Rattle.std.specs.declared.cmp.Ordering.TheVariants.{Less};
 ghost use Rattle.bk_path.specs.Orders.{is_same_equiv, path_partial, path_total, ties-same};
 ghost use Rattle.bk_path.specs.Paths as model;
 ghost use Rattle.bk_path.specs.Spelt.{Spells};
@@ -196,9 +198,11 @@ impl Path {
     }
 }
 
-/// Prefixes, parents and children of paths, as lists.
+/// Prefixes, parents and children of paths, as lists: a path is inferior to another exactly where the other's entries, from
+/// root on, are its front.
 pub fn law_paths()
-    ensures prefix { (a b c : List ℕ) → model.IsInferior a b → model.IsInferior b c → model.IsInferior a c }
+    ensures prefix { (path of : List ℕ) → model.IsInferior path of ↔ (take (length of) (reverse path) ≡ reverse of) }
+    ensures transitive { (a b c : List ℕ) → model.IsInferior a b → model.IsInferior b c → model.IsInferior a c }
     ensures parent_of_child { (entry : ℕ) (path : List ℕ) → model.parent (entry ∷ path) ≡ path }
     ensures child_of_parent { (path : List ℕ) → path ≢ [] → (entry : ℕ) × (entry ∷ model.parent path ≡ path) }
 {}
@@ -209,6 +213,19 @@ pub fn law_packing()
     ensures only { (first second : ℕ) (path : List ℕ) → first < 2 ^ 16 → second < 2 ^ 16 →
         model.unpack first second ≡ Some path → (model.pack path ≡ (first, second)) × model.IsPath path }
     ensures injective { (p q : List ℕ) → model.IsPath p → model.IsPath q → model.pack p ≡ model.pack q → p ≡ q }
+{}
+
+/// `/1` packs to 010400, 000000, and the deepest path of 15s fills both words but for the top bit; an entry past the depth
+/// is no path. `/` comes before `/0`, and `/0/0` before `/1`, which is superior to `/1/2` and not to `/2/1`.
+pub fn law_example()
+    ensures packed { model.pack (1 ∷ []) ≡ (4352, 0) }
+    ensures deepest { model.pack (15 ∷ 15 ∷ 15 ∷ 15 ∷ 15 ∷ 15 ∷ 15 ∷ []) ≡ (32767, 65535) }
+    ensures unpacked { model.unpack 4352 0 ≡ Some (1 ∷ []) }
+    ensures stray { model.unpack 4353 0 ≡ None }
+    ensures root_first { model.path_cmp [] (0 ∷ []) ≡ Less }
+    ensures by_entries { model.path_cmp (0 ∷ 0 ∷ []) (1 ∷ []) ≡ Less }
+    ensures inferior { model.is_inferior (2 ∷ 1 ∷ []) (1 ∷ []) ≡ true }
+    ensures apart { model.is_inferior (1 ∷ 2 ∷ []) (1 ∷ []) ≡ false }
 {}
 
 // Four numbers below 16, the first in bits 15 to 12.

@@ -1,20 +1,26 @@
 ghost use Rattle.std.specs.Prelude.{◌≡◌, ◌<◌, Some, slice_get, slice_index, slice_set};
 ghost use Rattle.std.specs.Borrow.{sem};
 ghost use Rattle.bk_process.specs.Lending.{LendsRegisters};
-ghost use Rattle.bk_process.specs.NewProcess.{new_process};
+ghost use Rattle.bk_process.specs.NewProcess.{entries_of_process, new_process, windows_of_process};
 
 use crate::status::Status9;
 use bk_path::Path;
 use bk_space::Regs;
+
+/// How many windows a process has: 8 pages for each of two modes and two spaces.
+pub const WINDOWS: u8 = 32;
+
+/// How many faults a process can have an entry for.
+pub const FAULT_ENTRIES: u8 = 8;
 
 /// What is kept of a process: all that it is but for the space that its windows show.
 #[derive(Clone, Copy, Debug)]
 pub struct Process {
     pub registers: Regs,
     /// The path that each window shows, or None where it is free. A window grants nothing (own).
-    pub windows: [Option<Path>; 32],
+    pub windows: [Option<Path>; WINDOWS as usize],
     /// The address at which the process takes each of the faults 0 to 7, or 0 for none (own).
-    pub entries: [u16; 8],
+    pub entries: [u16; FAULT_ENTRIES as usize],
     pub status: Status9,
 }
 
@@ -25,8 +31,8 @@ impl Process {
     {
         Process {
             registers: regs,
-            windows: [None; 32],
-            entries: [0; 8],
+            windows: [None; WINDOWS as usize],
+            entries: [0; FAULT_ENTRIES as usize],
             status: Status9::Running,
         }
     }
@@ -48,7 +54,7 @@ impl Process {
 
     /// The path that window n shows, or None where the window is free.
     pub fn window(&self, n: u8) -> Option<Path>
-        requires { n < 32 }
+        requires { n < windows_of_process }
         ensures { slice_get self.now.windows n ≡ Some result }
     {
         self.windows[n as usize]
@@ -56,7 +62,7 @@ impl Process {
 
     /// Window n shows the path, or is free.
     pub fn set_window(&mut self, n: u8, path: Option<Path>)
-        requires { n < 32 }
+        requires { n < windows_of_process }
         ensures { self.new ≡ record self.old { windows = slice_set self.old.windows n path } }
     {
         self.windows[n as usize] = path;
@@ -64,7 +70,7 @@ impl Process {
 
     /// The address at which the process takes the fault, or 0 where it has no entry for it.
     pub fn fault_entry(&self, fault: u8) -> u16
-        requires { fault < 8 }
+        requires { fault < entries_of_process }
         ensures { result ≡ slice_index self.now.entries fault }
     {
         self.entries[fault as usize]
@@ -72,7 +78,7 @@ impl Process {
 
     /// The process takes the fault at the address; 0 takes the entry away.
     pub fn set_fault_entry(&mut self, fault: u8, addr: u16)
-        requires { fault < 8 }
+        requires { fault < entries_of_process }
         ensures { self.new ≡ record self.old { entries = slice_set self.old.entries fault addr } }
     {
         self.entries[fault as usize] = addr;

@@ -7,9 +7,11 @@ use Rattle.bk_object.specs.declared.Kind.TheVariants.{Directory, Segment, Mailbo
 use Rattle.bk_object.specs.declared.Facts.{Facts}
 use Rattle.bk_path.specs.Paths.{Path, path_cmp}
 
+-- facts that grant nobody anything
 abbrev pub facts_with : Kind → (blocks level quota : ℕ) → Facts
 facts_with kind blocks level quota = record { kind = kind; blocks = blocks; level = level; quota = quota; row = [] }
 
+-- the objects by their paths
 abbrev pub example_entries : List (Path × Facts)
 example_entries =
     ([], facts_with Directory 0 0 16)
@@ -20,5 +22,6 @@ example_entries =
     ∷ (3 ∷ 1 ∷ 1 ∷ [], facts_with (Line 0) 0 1 0)
     ∷ []
 
+-- the map of them
 abbrev pub example : map.FinMap path_cmp Facts
 example = map.from_sorted example_entries

@@ -1,6 +1,7 @@
 -- What a cell shows: its limit, and how much of it is used.
 use Rattle.std.specs.Prelude.{ℕ, ◌+◌, Bool, true, false}
 
+-- the limit, and how much of it is used
 pub record Usage : Type 0 where
   pub limit : ℕ
   pub used : ℕ

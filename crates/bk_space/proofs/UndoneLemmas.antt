@@ -1,4 +1,5 @@
-use Rattle.std.proofs.Common.{◌≡◌, ℕ, ℤ, pos, negsuc, ◌+ℤ◌, ◌-ℤ◌, ◌≤ℤ◌, ◌^◌, ◌<◌, ◌==◌, Bool, true, false, Some, None, zero, suc, List, [], ◌∷◌, length, refl, sym, ◌∙◌, ap, arith, slice_index, slice_set, FitsSigned, w8}
+use Rattle.std.proofs.Common.{◌≡◌, ℕ, ℤ, pos, negsuc, ◌+ℤ◌, ◌-ℤ◌, ◌≤ℤ◌, ◌^◌, ◌<◌, ◌==◌, Bool, true, false, Some}
+use Rattle.std.proofs.Common.{None, zero, suc, List, [], ◌∷◌, length, refl, sym, ◌∙◌, ap, arith, slice_index, slice_set, FitsSigned, w8}
 use Rattle.std.specs.Prelude.{Option}
 use Rattle.std.proofs.lemmas.List.{get_or-set_same, set-get_or, set-set, length-set}
 use Rattle.std.proofs.lemmas.Int.{ints}

@@ -1,4 +1,6 @@
-use Rattle.std.specs.Prelude.{◌≡◌, ◌<◌, ℕ, Bool, true, false, ◌&&◌, ◌+◌, ◌*◌, ◌/◌, ◌%◌, ◌==◌, nat_le, if◌then◌else◌, List, length, slice_index, Option, Some, None, Result, Ok, Err}
+-- The pages of a process, and what they answer to a reference.
+use Rattle.std.specs.Prelude.{◌≡◌, ◌<◌, ℕ, ◌+◌, ◌*◌, ◌/◌, ◌%◌, ◌==◌, Bool, true, false, ◌&&◌, nat_le, if◌then◌else◌}
+use Rattle.std.specs.Prelude.{List, length, slice_index, slice_set, Option, Some, None, Result, Ok, Err}
 use Rattle.bk_space.specs.declared.reference.Mode.{Mode}
 use Rattle.bk_space.specs.declared.reference.Mode.TheVariants.{Supervisor, User}
 use Rattle.bk_space.specs.declared.reference.Space.{Space}
@@ -9,6 +11,7 @@ use Rattle.bk_space.specs.declared.reference.Rights.{Rights}
 use Rattle.bk_space.specs.declared.reference.Rights.TheVariants as rights
 use Rattle.bk_space.specs.declared.reference.Abort.{Abort}
 use Rattle.bk_space.specs.declared.reference.Abort.TheVariants.{Odd, NonResident, Length, ReadOnly}
+use Rattle.bk_space.specs.Parts.{byte_in, merged}
 
 -- a page: what may be done with it, and its words
 pub record Page : Type 0 where
@@ -58,17 +61,25 @@ is_read_only rights.None = false
 is_read_only rights.Read = true
 is_read_only rights.Write = false
 
+-- a byte offset beyond so many words
+abbrev pub is_past : ℕ → ℕ → Bool
+is_past words offset = nat_le (2 * words) offset
+
 -- a byte offset beyond the page's words
 abbrev pub is_beyond : Page → ℕ → Bool
-is_beyond page offset = nat_le (2 * length page.words) offset
+is_beyond page offset = is_past (length page.words) offset
 
--- why a reference to the page doesn't complete, if it doesn't: odd, non-resident, length, read-only
-abbrev pub refusal : Page → Width → ℕ → Bool → Option Abort
-refusal page width addr writes =
+-- why a reference to a page of these rights and so many words doesn't complete, if it doesn't: odd, non-resident, length, read-only
+abbrev pub refused : Rights → ℕ → Width → ℕ → Bool → Option Abort
+refused rights words width addr writes =
     if is_odd width addr then Some Odd else (
-    if is_absent page.rights then Some NonResident else (
-    if is_beyond page (offset_of addr) then Some Length else (
-    if writes && is_read_only page.rights then Some ReadOnly else None)))
+    if is_absent rights then Some NonResident else (
+    if is_past words (offset_of addr) then Some Length else (
+    if writes && is_read_only rights then Some ReadOnly else None)))
+
+-- why a reference to the page doesn't complete, if it doesn't
+abbrev pub refusal : Page → Width → ℕ → Bool → Option Abort
+refusal page width addr writes = refused page.rights (length page.words) width addr writes
 
 -- the reference completes: a word is aligned, the page is there, the address is inside it, and a write is allowed
 pub record Completes (page : Page) (width : Width) (addr : ℕ) (writes : Bool) : Type 0 where
@@ -77,12 +88,14 @@ pub record Completes (page : Page) (width : Width) (addr : ℕ) (writes : Bool) 
   pub inside : offset_of addr < 2 * length page.words
   pub allowed : (writes && is_read_only page.rights) ≡ false
 
--- the word or the byte at an address of the page; the low byte stands at the even address
+-- the word or the byte at an address of the page
 abbrev pub content : Page → Width → ℕ → ℕ
 content page Word addr = slice_index page.words (offset_of addr / 2)
-content page Byte addr =
-    if addr % 2 == 0 then slice_index page.words (offset_of addr / 2) % 256
-    else slice_index page.words (offset_of addr / 2) / 256
+content page Byte addr = byte_in addr (slice_index page.words (offset_of addr / 2))
+
+-- a page's words after a write at an address of it
+abbrev pub put : Width → (addr value : ℕ) → List ℕ → List ℕ
+put width addr value words = slice_set words (offset_of addr / 2) (merged width addr value (slice_index words (offset_of addr / 2)))
 
 -- the value, unless there is an abort
 abbrev pub unless : {X : Type 0} → Option Abort → X → Result X Abort

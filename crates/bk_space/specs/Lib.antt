@@ -1,6 +1,7 @@
 pub mod AddrSpace
 pub mod Counts
 pub mod Faults
+pub mod Parts
 pub mod Registers
 pub mod Status
 pub mod Trail

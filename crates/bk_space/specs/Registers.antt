@@ -1,4 +1,6 @@
-use Rattle.std.specs.Prelude.{◌≡◌, ℕ, ℤ, pos, negsuc, ◌+ℤ◌, Bool, true, false, ◌-◌, ◌%◌, ◌^◌, ◌<◌, ◌==◌, ◌∷◌, [], length, slice_index, slice_set}
+-- The registers of a process: R0 to R5, a stack pointer for each mode, the program counter and the status.
+use Rattle.std.specs.Prelude.{◌≡◌, ℕ, ℤ, pos, negsuc, ◌+ℤ◌, ◌-◌, ◌%◌, ◌^◌, ◌<◌, ◌==◌, Bool, true, false}
+use Rattle.std.specs.Prelude.{◌∷◌, [], length, slice_index, slice_set}
 use Rattle.bk_space.specs.declared.reference.Mode.{Mode}
 use Rattle.bk_space.specs.declared.reference.Mode.TheVariants.{Supervisor, User}
 use Rattle.bk_space.specs.declared.status.Ps.{Ps}
@@ -18,11 +20,13 @@ abbrev pub with_stack : Mode → Regs → ℕ → Regs
 with_stack Supervisor regs value = record regs { supervisor = value }
 with_stack User regs value = record regs { user = value }
 
+-- of a register's number: the program counter, the stack pointer of the mode, or one of R0 to R5
 abbrev pub reg_by : Bool → Bool → Mode → Regs → ℕ → ℕ
 reg_by true _ _ regs n = regs.pc
 reg_by false true mode regs n = stack_of mode regs
 reg_by false false _ regs n = slice_index regs.general n
 
+-- .. replaced
 abbrev pub with_reg_by : Bool → Bool → Mode → Regs → ℕ → ℕ → Regs
 with_reg_by true _ _ regs n value = record regs { pc = value }
 with_reg_by false true mode regs n value = with_stack mode regs value

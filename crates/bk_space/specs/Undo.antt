@@ -12,6 +12,7 @@ taken_back (Some note) regs = with_reg regs note.0 (wrapped (pos (reg regs note.
 unfoldable pub undone : Trail → Regs → Regs
 undone trail regs = record (taken_back trail.first (taken_back trail.second regs)) { pc = trail.pc }
 
+-- a note goes behind the first, where there is one
 abbrev pub noted_at : Option (ℕ × ℤ) → Trail → ℕ × ℤ → Trail
 noted_at None trail note = record trail { first = Some note }
 noted_at (Some _) trail note = record trail { second = Some note }

@@ -1,12 +1,13 @@
-use Rattle.std.proofs.Common.{◌≡◌, ◌≤◌, ◌+◌, vec_len}
+use Rattle.std.proofs.Common.{◌≡◌, ◌+◌, ◌++◌, vec_len}
 use Rattle.std.specs.Io.KnownBytes.{Consumes}
 use Rattle.bk_base.proofs.all.read_all.Given as goal
 
 abbrev pub invariant-loop-room : goal.invariant-loop-room
 invariant-loop-room g l = record {
   count : vec_len l.all + l.room ≡ l.max;
-  bytes : Consumes (g.I.Source.left l.fn.src) (g.I.Source.left l.src) l.all.items;
-  later : g.I.Source.faults l.fn.src ≤ g.I.Source.faults l.src;
+  bytes : Consumes (g.I.Source.state l.fn.src).left (g.I.Source.state l.src).left l.all.items;
+  given : (g.I.Source.state l.src).given ≡ (g.I.Source.state l.fn.src).given ++ l.all.items;
+  told : (g.I.Source.state l.src).faults ≡ (g.I.Source.state l.fn.src).faults;
 }
 
 abbrev pub decreases-loop-room : goal.decreases-loop-room

@@ -1,4 +1,4 @@
-use Rattle.std.proofs.Common.{take-add, arith}
+use Rattle.std.proofs.Common.{◌∙◌, take-add, arith}
 use Rattle.std.proofs.lemmas.Grind.{common_steps}
 use Rattle.std.proofs.KnownBytes.{Appends-trans}
 use Rattle.bk_base.proofs.all.write_all.Goals as goal
@@ -10,7 +10,7 @@ loop-at-preserved g c = record {
     bytes =
         rw (take-add c.loop-at.at c.in_ok-n.n c.args.bytes.now)
         (Appends-trans _ _ _ _ _ c.loop-at.invariant.taken.bytes (rw c.split_at.ensures.back at c.in_ok-n.ensures.bytes.bytes));
-    later = omega arith;
+    told = c.in_ok-n.ensures.cause.told ∙ c.loop-at.invariant.taken.told;
   };
   untouched = λ none. absurd (omega (arith, c.in_ok-n.ensures.bytes.least));
 }

@@ -2,8 +2,8 @@ use Rattle.bk_quota.proofs.GoverningLemmas.{governing-prefix, governing-cell, go
 use Rattle.bk_quota.proofs.laws.law_governing.Goals as goal
 
 pub returns : goal.returns
-returns c = record {
-  prefix = governing-prefix (λ facts. facts);
-  cell = governing-cell (λ facts. facts);
-  longest = governing-longest (λ facts. facts);
+returns g c = record {
+  prefix = governing-prefix g.F.FactsByPath.facts_of;
+  cell = governing-cell g.F.FactsByPath.facts_of;
+  longest = governing-longest g.F.FactsByPath.facts_of;
 }
