@@ -1,20 +1,22 @@
 -- The smallest state is secure.
 use Rattle.std.proofs.Common.{◌≡◌, ℕ, zero, suc, ◌+◌, ◌<◌, ◌≤◌, Bool, true, false, ◌||◌, ◌&&◌, [], ◌∷◌, Option, Some, None, refl, sym, ap, subst, ◌∙◌, inl, inr, replicate, unwrap_or, get_or, cond, arith}
-use Rattle.std.specs.Prelude.{option_map, sum_by}
+use Rattle.std.specs.Prelude.{option_map, sum_by, length}
+use Rattle.std.specs.List.{IsDistinct}
 use Rattle.std.specs.Ordering.{eq_by_cmp}
 use Rattle.std.specs.FinMap as map
 use Rattle.std.specs.FinSet as set
-use Rattle.bk_level.specs.Levels.{dominates}
+use Rattle.bk_level.specs.Levels.{dominates, is_same_level}
 use Rattle.bk_object.specs.Modes.{Mode, Read, Execute, Write, Append, has, no_modes}
 use Rattle.bk_object.specs.Kinds.{kind_modes, is_directory}
-use Rattle.bk_object.specs.Rows.{in_row}
+use Rattle.bk_object.specs.Rows.{in_row, most_subjects}
 use Rattle.bk_object.specs.declared.Kind.TheVariants.{Directory}
 use Rattle.bk_object.specs.declared.Facts.{Facts}
 use Rattle.bk_path.specs.Paths.{Path, path_cmp}
 use Rattle.bk_quota.specs.Charges.{passes, share_in}
 use Rattle.bk_state.specs.State.{Object, Triple, triple_cmp, find, facts_at, holds, current_level, greatest_level}
 use Rattle.bk_state.specs.Quota.{used, quota_at, is_upgraded}
-use Rattle.bk_state.specs.Secure.{Secure, FitsKind, HasCell, is_allowed}
+use Rattle.bk_state.specs.Allowed.{is_allowed}
+use Rattle.bk_state.specs.Secure.{Secure, FitsKind, HasCell}
 use Rattle.bk_state.specs.Smallest.{smallest, only_root, only_row}
 use Rattle.bk_state.proofs.Orders.{triple_total, same_tests}
 use Rattle.bk_state.proofs.Triples.{same_triple}
@@ -100,9 +102,15 @@ clearances (suc s) lt = absurd (omega arith)
 root_allows : passes (λ facts. has (in_row facts.row 0) Write && is_allowed smallest 0 facts Write) (facts_at smallest []) ≡ true
 root_allows = ap (λ a. passes (λ facts. has (in_row facts.row 0) Write && is_allowed smallest 0 facts Write) (option_map (λ o. o.facts) a)) (found [])
 
+one_level : IsDistinct is_same_level smallest.fixed.levels
+unfolding IsDistinct
+one_level = (tt, tt)
+
 pub smallest-Secure : Secure smallest
 smallest-Secure = record {
   processes = refl;
+  shape = record { rows = λ p f is. subst (λ g. length g.row ≡ most_subjects) (facts_root p f is).1 refl; processes = refl };
+  distinct = one_level;
   root = ap (λ a. passes (λ f. is_directory f.kind) a) (ap (option_map (λ o. o.facts)) (found []));
   parents = λ e p f is. cc ((facts_root (e ∷ p) f is).0);
   clearances = clearances;

@@ -1,18 +1,24 @@
 -- When a state is secure.
 use Rattle.std.specs.Prelude.{◌≡◌, ℕ, ◌*◌, ◌%◌, ◌^◌, ◌<◌, ◌≤◌, Bool, true, ◌&&◌, [], ◌∷◌, length, Some, slice_index, ◌==◌, ◌⊎◌}
-use Rattle.std.specs.List.{list_all}
-use Rattle.bk_level.specs.Levels.{Level, dominates, is_same_level}
+use Rattle.std.specs.List.{list_all, IsDistinct}
+use Rattle.bk_level.specs.Levels.{dominates, is_same_level}
 use Rattle.bk_path.specs.Paths.{Path}
-use Rattle.bk_object.specs.Modes.{Mode, Read, Execute, Write, Append, has}
+use Rattle.bk_object.specs.Limits.{most_blocks, words_of_block, largest_quota, most_messages, words_of_message, most_typed}
+use Rattle.bk_object.specs.Modes.{Mode, has}
 use Rattle.bk_object.specs.Kinds.{kind_modes, is_directory}
-use Rattle.bk_object.specs.Rows.{in_row}
+use Rattle.bk_object.specs.Rows.{in_row, most_subjects}
 use Rattle.bk_object.specs.declared.Kind.{Kind}
 use Rattle.bk_object.specs.declared.Kind.TheVariants.{Directory, Segment, Mailbox, Line}
 use Rattle.bk_object.specs.declared.Facts.{Facts}
+use Rattle.bk_process.specs.NewProcess.{windows_of_process, entries_of_process, general_registers}
+use Rattle.bk_process.specs.declared.process.Process.{Process}
 use Rattle.bk_quota.specs.Charges.{passes}
-use Rattle.bk_state.specs.State.{State, Fixed, Object, Contents, Children, Words, Messages, Typed, find, facts_at, holds, current_level, greatest_level, level_of}
+use Rattle.bk_state.specs.State.{State, Fixed, Object, Contents, Children, Words, Messages, Typed, find, facts_at, holds}
+use Rattle.bk_state.specs.State.{current_level, greatest_level, level_of}
+use Rattle.bk_state.specs.Allowed.{is_allowed}
 use Rattle.bk_state.specs.Quota.{used, is_upgraded, quota_at}
 
+-- a directory is there
 abbrev pub IsDirectoryAt : State → Path → Type 0
 IsDirectoryAt v path = passes (λ facts. is_directory facts.kind) (facts_at v path) ≡ true
 
@@ -20,15 +26,18 @@ IsDirectoryAt v path = passes (λ facts. is_directory facts.kind) (facts_at v pa
 -- four words and a count of lost ones; a line at most 64 bytes, and the level that the image gives to its number.
 abbrev pub FitsKind : Fixed → Kind → Facts → Contents → Type 0
 FitsKind fixed Directory facts contents = (facts.blocks ≡ 0) × (contents ≡ Children)
-FitsKind fixed Segment facts (Words words) = (1 ≤ facts.blocks) × (facts.blocks ≤ 128) × (length words ≡ 32 * facts.blocks)
+FitsKind fixed Segment facts (Words words) =
+    (1 ≤ facts.blocks) × (facts.blocks ≤ most_blocks) × (length words ≡ words_of_block * facts.blocks)
 FitsKind fixed Segment facts Children = ⊥
 FitsKind fixed Segment facts (Messages waiting lost) = ⊥
 FitsKind fixed Segment facts (Typed bytes) = ⊥
-FitsKind fixed Mailbox facts (Messages waiting lost) = (facts.blocks ≡ 0) × (length waiting ≤ 16) × (list_all (λ message. length message == 4) waiting ≡ true) × (lost < 2 ^ 16)
+FitsKind fixed Mailbox facts (Messages waiting lost) =
+    (facts.blocks ≡ 0) × (length waiting ≤ most_messages) × (list_all (λ message. length message == words_of_message) waiting ≡ true) × (lost < 2 ^ 16)
 FitsKind fixed Mailbox facts Children = ⊥
 FitsKind fixed Mailbox facts (Words words) = ⊥
 FitsKind fixed Mailbox facts (Typed bytes) = ⊥
-FitsKind fixed (Line n) facts (Typed bytes) = (facts.blocks ≡ 0) × (length bytes ≤ 64) × (n < length fixed.lines) × (facts.level ≡ slice_index fixed.lines n)
+FitsKind fixed (Line n) facts (Typed bytes) =
+    (facts.blocks ≡ 0) × (length bytes ≤ most_typed) × (n < length fixed.lines) × (facts.level ≡ slice_index fixed.lines n)
 FitsKind fixed (Line n) facts Children = ⊥
 FitsKind fixed (Line n) facts (Words words) = ⊥
 FitsKind fixed (Line n) facts (Messages waiting lost) = ⊥
@@ -37,21 +46,25 @@ FitsKind fixed (Line n) facts (Messages waiting lost) = ⊥
 abbrev pub HasCell : State → Path → Type 0
 HasCell v path = (path ≡ []) ⊎ (is_upgraded v path ≡ true)
 
--- The levels at which a subject may hold an object by the mode, from its greatest and its current level and the object's.
--- For r, e and w the greatest level dominates the object's (the simple security condition). For r and e the current level
--- dominates the object's, for w it is the object's, and for a the object's dominates it (the *-property).
-abbrev pub allows : Mode → (greatest current object : Level) → Bool
-allows Read greatest current object = dominates greatest object && dominates current object
-allows Execute greatest current object = dominates greatest object && dominates current object
-allows Write greatest current object = dominates greatest object && is_same_level object current
-allows Append greatest current object = dominates object current
+-- the process has all its windows, fault entries and general registers
+abbrev pub is_whole : Process → Bool
+is_whole process =
+    length process.windows == windows_of_process && length process.entries == entries_of_process
+    && length process.registers.general == general_registers
 
-abbrev pub is_allowed : State → ℕ → Facts → Mode → Bool
-is_allowed v s facts mode = allows mode (greatest_level v s) (current_level v s) (level_of v facts)
+-- Each row has a set of modes for every subject that there can be, and each process all its windows, fault entries and
+-- general registers.
+pub record HasShape (v : State) : Type 0 where
+  pub rows : (path : Path) (facts : Facts) → facts_at v path ≡ Some facts → length facts.row ≡ most_subjects
+  pub processes : list_all is_whole v.processes ≡ true
 
 pub record Secure (v : State) : Type 0 where
   -- there are as many processes as subjects
   pub processes : length v.processes ≡ length v.fixed.subjects
+  -- rows and processes have all their places
+  pub shape : HasShape v
+  -- no two numbers of the list are those of one level
+  pub distinct : IsDistinct is_same_level v.fixed.levels
   -- root is there and is a directory; the parent of every other object is a directory whose level the object's dominates
   pub root : IsDirectoryAt v []
   pub parents : (entry : ℕ) (path : Path) (facts : Facts) → facts_at v (entry ∷ path) ≡ Some facts →
@@ -64,7 +77,7 @@ pub record Secure (v : State) : Type 0 where
   pub lines : (p q : Path) (facts other : Facts) (n : ℕ) → facts_at v p ≡ Some facts → facts_at v q ≡ Some other →
       facts.kind ≡ Line n → other.kind ≡ Line n → p ≡ q
   -- root and each upgraded directory have a quota of 1 to 3,904, of which no more is used than there is; all else has 0
-  pub limits : (path : Path) → HasCell v path → (1 ≤ quota_at v path) × (quota_at v path ≤ 3904)
+  pub limits : (path : Path) → HasCell v path → (1 ≤ quota_at v path) × (quota_at v path ≤ largest_quota)
   pub no_limits : (path : Path) → ¬ HasCell v path → quota_at v path ≡ 0
   pub quotas : (path : Path) → HasCell v path → used v path ≤ quota_at v path
   -- rows hold modes of the kind, and only for subjects that are there

@@ -4,6 +4,8 @@ use Rattle.std.specs.List.{range_with_len}
 use Rattle.std.specs.FinMap as finmap
 use Rattle.std.specs.FinSet as set
 use Rattle.bk_path.specs.Paths.{Path}
+use Rattle.bk_object.specs.Limits.{words_of_block}
+use Rattle.bk_process.specs.NewProcess.{windows_of_process}
 use Rattle.bk_object.specs.Modes.{Mode, Read, Execute, Write, Append, has}
 use Rattle.bk_object.specs.declared.kind.Kind.{Kind}
 use Rattle.bk_object.specs.declared.kind.Kind.TheVariants.{Directory, Segment, Mailbox, Line}
@@ -19,9 +21,9 @@ use Rattle.bk_process.specs.declared.process.Process.{Process}
 use Rattle.bk_process.specs.declared.status.Status9.TheVariants.{Running}
 use Rattle.bk_state.specs.State.{State, Object, Contents, Children, Words, Messages, Typed, Triple}
 
--- the given words, and zeros up to 32 words a block
+-- the given words, and zeros up to the words of so many blocks
 abbrev pub padded : ℕ → List ℕ → List ℕ
-padded blocks words = words ++ replicate (32 * blocks - length words) 0
+padded blocks words = words ++ replicate (words_of_block * blocks - length words) 0
 
 -- what an object of the kind holds at the start
 abbrev pub contents_from : Kind → (blocks : ℕ) → List ℕ → Contents
@@ -39,7 +41,7 @@ shown_in windows n = option_map (λ w. w.path) (first (λ w. w.index == n) windo
 
 -- the paths that the 32 windows show, by their numbers
 unfoldable pub windows_from : List WindowRec → List (Option Path)
-windows_from windows = map (shown_in windows) (range_with_len 0 32)
+windows_from windows = map (shown_in windows) (range_with_len 0 windows_of_process)
 
 -- a process at the start: the given registers, no trace bit and no condition codes, and it runs
 abbrev pub process_from : SubjectRec → Process

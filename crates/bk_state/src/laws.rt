@@ -1,8 +1,8 @@
-ghost use Rattle.std.specs.Prelude.{◌≡◌, ◌<◌, ℕ, true, Some, None, length};
+ghost use Rattle.std.specs.Prelude.{[], ◌∷◌, ◌≡◌, ◌<◌, ℕ, true, Some, None, length, map};
 ghost use Rattle.bk_process.specs.declared.process.Process.{Process};
 ghost use Rattle.bk_state.specs.Answers.{called};
-ghost use Rattle.bk_state.specs.Calls.{call_of, call_checks};
-ghost use Rattle.bk_state.specs.Checks.{is_in_order, order};
+ghost use Rattle.bk_state.specs.Calls.{call_of, calls, definition_of};
+ghost use Rattle.bk_state.specs.Causes.{is_in_order, order};
 ghost use Rattle.bk_state.specs.Secure.{Secure};
 ghost use Rattle.bk_state.specs.Smallest.{smallest};
 ghost use Rattle.bk_state.specs.State.{State, clearance_of};
@@ -16,18 +16,22 @@ pub fn law_smallest()
 
 /// The checks of each call stand in the one order of all checks.
 pub fn law_order_of_checks()
-    ensures { (call : Call) → is_in_order (call_checks call) order ≡ true }
+    ensures { (call : Call) → is_in_order (definition_of call).checks order ≡ true }
 {}
 
 /// The calls have the numbers 1 to 26 (octal), the nine rules first.
 pub fn law_numbers()
-    ensures zero { call_of 0 ≡ None }
-    ensures get_read { call_of 0o1 ≡ Some (Call.ByRule Rule.GetRead) }
-    ensures create { call_of 0o10 ≡ Some (Call.ByRule Rule.Create) }
-    ensures delete_group { call_of 0o11 ≡ Some (Call.ByRule Rule.DeleteGroup) }
-    ensures window { call_of 0o12 ≡ Some (Call.Other Service.Window) }
-    ensures line_in { call_of 0o20 ≡ Some (Call.Other Service.LineIn) }
-    ensures stop { call_of 0o26 ≡ Some (Call.Other Service.Stop) }
+    ensures none { call_of 0 ≡ None }
+    ensures rules { map call_of (1 ∷ 2 ∷ 3 ∷ 4 ∷ 5 ∷ 6 ∷ 7 ∷ 0o10 ∷ 0o11 ∷ []) ≡
+        Some (Call.ByRule Rule.GetRead) ∷ Some (Call.ByRule Rule.GetAppend) ∷ Some (Call.ByRule Rule.GetExecute)
+        ∷ Some (Call.ByRule Rule.GetWrite) ∷ Some (Call.ByRule Rule.Release) ∷ Some (Call.ByRule Rule.Give)
+        ∷ Some (Call.ByRule Rule.Rescind) ∷ Some (Call.ByRule Rule.Create) ∷ Some (Call.ByRule Rule.DeleteGroup) ∷ [] }
+    ensures services { map call_of (0o12 ∷ 0o13 ∷ 0o14 ∷ 0o15 ∷ 0o16 ∷ 0o17 ∷ 0o20 ∷ 0o21 ∷ 0o22 ∷ 0o23 ∷ 0o24 ∷ 0o25 ∷ 0o26 ∷ []) ≡
+        Some (Call.Other Service.Window) ∷ Some (Call.Other Service.Unwindow) ∷ Some (Call.Other Service.Deposit)
+        ∷ Some (Call.Other Service.Send) ∷ Some (Call.Other Service.Receive) ∷ Some (Call.Other Service.LineOut)
+        ∷ Some (Call.Other Service.LineIn) ∷ Some (Call.Other Service.Entry) ∷ Some (Call.Other Service.Identify)
+        ∷ Some (Call.Other Service.Quota) ∷ Some (Call.Other Service.Pause) ∷ Some (Call.Other Service.SetFaultEntry)
+        ∷ Some (Call.Other Service.Stop) ∷ [] }
     ensures past { (n : ℕ) → 0o26 < n → call_of n ≡ None }
 {}
 

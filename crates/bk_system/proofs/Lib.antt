@@ -1,1 +1,3 @@
+pub mod FixedPart
+pub mod Folds
 pub mod Bounds

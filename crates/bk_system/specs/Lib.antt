@@ -1,6 +1,10 @@
-pub mod Space
 pub mod Step
+pub mod Space
 pub mod Turn
-pub mod Slot
-pub mod Report
+pub mod Arrivals
 pub mod Event
+pub mod Slot
+pub mod Loops
+pub mod Kept
+pub mod Report
+pub mod Example

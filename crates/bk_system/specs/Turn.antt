@@ -20,9 +20,11 @@ use Rattle.bk_process.specs.declared.status.Status9.TheVariants.{Running, Paused
 use Rattle.bk_report.specs.declared.ReportItem.{ReportItem}
 use Rattle.bk_report.specs.declared.ReportItem.TheVariants as items
 use Rattle.bk_state.specs.State.{State, Contents, Children, Words, Messages, Typed, process_of}
-use Rattle.bk_state.specs.Checks.{Cause, cause_number}
-use Rattle.bk_state.specs.Changes.{changed_at}
-use Rattle.bk_state.specs.Answers.{Called, called, with_contents, answer_number}
+use Rattle.bk_state.specs.Contents.{with_contents}
+use Rattle.bk_state.specs.Causes.{answer_in, cause_in}
+use Rattle.bk_state.specs.RowCalls.{changed_at}
+use Rattle.bk_state.specs.Answers.{Called, called}
+use Rattle.bk_system.specs.declared.at.At.{At}
 use Rattle.bk_system.specs.Space.{space_of}
 use Rattle.bk_system.specs.Step.{Step, nothing}
 
@@ -32,16 +34,19 @@ use Rattle.bk_system.specs.Step.{Step, nothing}
 abbrev pub with_byte : (addr byte word : ℕ) → ℕ
 with_byte addr byte word = if addr % 2 == 0 then word / 2 ^ 8 * 2 ^ 8 + byte else byte * 2 ^ 8 + word % 2 ^ 8
 
+-- the words of a segment after a write of a word or of a byte
 abbrev pub stored : Width → (addr value : ℕ) → (words : List ℕ) → List ℕ
 stored Word addr value words = slice_set words (offset_of addr / 2) value
 stored Byte addr value words = slice_set words (offset_of addr / 2) (with_byte addr value (slice_index words (offset_of addr / 2)))
 
+-- of contents that are words
 abbrev pub stored_in : Write → Contents → Contents
 stored_in w Children = Children
 stored_in w (Words words) = Words (stored w.width w.addr w.value words)
 stored_in w (Messages waiting lost) = Messages waiting lost
 stored_in w (Typed bytes) = Typed bytes
 
+-- in the segment that a window shows
 abbrev pub written_by : State → Write → Option (Option Path) → State
 written_by v w (Some (Some path)) = changed_at v path (with_contents (stored_in w))
 written_by v w (Some None) = v
@@ -53,28 +58,24 @@ written windows v w = written_by v w (slice_get windows (page_number w.mode w.sp
 
 -- ---- the process of a subject
 
+-- the subject's process becomes this one
 abbrev pub with_process : State → (s : ℕ) → Process → State
 with_process v s p = record v { processes = slice_set v.processes s p }
 
 -- ---- kernel calls
 
-abbrev pub byte_item : (slot turn : ℕ) → Option (ℕ × ℕ) → List ReportItem
-byte_item slot turn None = []
-byte_item slot turn (Some sent) = items.Byte slot turn sent.0 sent.1 ∷ []
-
-abbrev pub answer_in : Option Cause → ℕ
-answer_in None = 0
-answer_in (Some cause) = answer_number cause
-
-abbrev pub cause_in : Option Cause → ℕ
-cause_in None = 0
-cause_in (Some cause) = cause_number cause
+-- the item of a byte that went out
+abbrev pub byte_item : At → Option (ℕ × ℕ) → List ReportItem
+byte_item at None = []
+byte_item at (Some sent) = items.Byte at.slot at.turn sent.0 sent.1 ∷ []
 
 -- the state after a call, and its items: the call with R0 to R5 as found, and the byte that went out
-abbrev pub settled : State → (slot turn s : ℕ) → Process → (number references : ℕ) → Called → Step
-settled v slot turn s p number references c = record {
-  state = record v { objects = c.objects; access = c.access; processes = slice_set v.processes s c.process };
-  items = items.Call slot turn s number p.registers.general (answer_in c.cause) (cause_in c.cause) ∷ byte_item slot turn c.sent;
+abbrev pub settled : State → At → Process → (number references : ℕ) → Called → Step
+settled v at p number references c = record {
+  state = record v { objects = c.objects; access = c.access; processes = slice_set v.processes at.subject c.process };
+  items =
+      items.Call at.slot at.turn at.subject number p.registers.general (answer_in c.cause) (cause_in c.cause)
+      ∷ byte_item at c.sent;
   references = references;
 }
 
@@ -91,6 +92,7 @@ fault_number faults.Break = 5
 fault_number faults.Iot = 6
 fault_number faults.Trap = 7
 
+-- the mode is user
 abbrev pub is_user : Mode → Bool
 is_user Supervisor = false
 is_user User = true
@@ -99,6 +101,7 @@ is_user User = true
 abbrev pub less : (addr n : ℕ) → ℕ
 less addr n = (addr + (2 ^ 16 - n)) % 2 ^ 16
 
+-- the reference completes
 abbrev pub completes : {X : Type 0} → Result X Abort → Bool
 completes (Ok x) = true
 completes (Err abort) = false
@@ -129,41 +132,44 @@ with_pushes v p =
     pushed p.windows (less p.registers.supervisor 4) p.registers.pc
     (pushed p.windows (less p.registers.supervisor 2) (word_of p.registers.ps) v)
 
-abbrev pub faulted : State → (slot turn s : ℕ) → Process → (number references entry : ℕ) → (reflected : Bool) → Step
-faulted v slot turn s p number references entry true = record {
-  state = with_process (with_pushes v p) s (entered p entry);
-  items = items.Fault slot turn s number p.registers.pc true ∷ [];
+-- a fault is reflected, or stops the process
+abbrev pub faulted : State → At → Process → (number references entry : ℕ) → (reflected : Bool) → Step
+faulted v at p number references entry true = record {
+  state = with_process (with_pushes v p) at.subject (entered p entry);
+  items = items.Fault at.slot at.turn at.subject number p.registers.pc true ∷ [];
   references = references + 2;
 }
-faulted v slot turn s p number references entry false = record {
-  state = with_process v s (record p { status = Stopped number });
-  items = items.Fault slot turn s number p.registers.pc false ∷ [];
+faulted v at p number references entry false = record {
+  state = with_process v at.subject (record p { status = Stopped number });
+  items = items.Fault at.slot at.turn at.subject number p.registers.pc false ∷ [];
   references = references;
 }
 
 -- ---- the turn
 
 -- the process has the registers that the instruction left, and its write is made; then what it ended as
-abbrev pub ended : State → (slot turn s : ℕ) → Process → (references : ℕ) → Event → Step
-ended v slot turn s p references Ran = record { state = with_process v s p; items = []; references = references }
-ended v slot turn s p references (Call number) = settled v slot turn s p number references (called v s p number)
-ended v slot turn s p references (Fault cause) =
+abbrev pub ended : State → At → Process → (references : ℕ) → Event → Step
+ended v at p references Ran = record { state = with_process v at.subject p; items = []; references = references }
+ended v at p references (Call number) = settled v at p number references (called v at.subject p number)
+ended v at p references (Fault cause) =
     let entry = slice_index p.entries (fault_number cause) in
-    faulted v slot turn s p (fault_number cause) references entry (is_reflected v s p entry)
+    faulted v at p (fault_number cause) references entry (is_reflected v at.subject p entry)
 
-abbrev pub took : State → (slot turn s : ℕ) → Process → Done → Step
-took v slot turn s p x = ended (applied (written p.windows) v x.write) slot turn s (record p { registers = x.regs }) x.references x.outcome
+-- the process after its instruction
+abbrev pub executed : State → At → Process → Done → Step
+executed v at p x = ended (applied (written p.windows) v x.write) at (record p { registers = x.regs }) x.references x.outcome
 
 -- a paused or stopped process does nothing
-abbrev pub taken_by : State → (slot turn s : ℕ) → Process → Status9 → Step
-taken_by v slot turn s p Running = took v slot turn s p (exec (space_of v s p.windows) p.registers)
-taken_by v slot turn s p Paused = nothing v
-taken_by v slot turn s p (Stopped cause) = nothing v
+abbrev pub turn_by : State → At → Process → Status9 → Step
+turn_by v at p Running = executed v at p (exec (space_of v at.subject p.windows) p.registers)
+turn_by v at p Paused = nothing v
+turn_by v at p (Stopped cause) = nothing v
 
-abbrev pub taken : State → (slot turn s : ℕ) → Option Process → Step
-taken v slot turn s None = nothing v
-taken v slot turn s (Some p) = taken_by v slot turn s p p.status
+-- a number that is no subject's does nothing
+abbrev pub turn_of_process : State → At → Option Process → Step
+turn_of_process v at None = nothing v
+turn_of_process v at (Some p) = turn_by v at p p.status
 
--- turn number `turn` of slot number `slot`, which is the subject's
-unfoldable pub turn_of : (slot turn : ℕ) → State → (s : ℕ) → Step
-turn_of slot turn v s = taken v slot turn s (process_of v s)
+-- the turn of a subject
+unfoldable pub turn_of : At → State → Step
+turn_of at v = turn_of_process v at (process_of v at.subject)
