@@ -14,9 +14,9 @@ use Rattle.bk_process.specs.declared.process.Process.{Process}
 use Rattle.bk_quota.specs.Charges.{passes}
 use Rattle.bk_state.specs.State.{State, Fixed, Object, triple_cmp, find, facts_at, holds, process_of, current_level, level_of}
 use Rattle.bk_state.specs.Secure.{Secure}
+use Rattle.bk_laws.proofs.Changes.{facts_in, with_objects, moved}
 use Rattle.bk_state.specs.Low.{is_subject_under, is_under, shows, contents_under, low}
 use Rattle.bk_laws.proofs.Tests.{some_same, passes_more, passes_there}
-use Rattle.bk_laws.proofs.Changes.{facts_in, with_objects, moved}
 use Rattle.bk_laws.proofs.SecureFrame.{is_above}
 
 -- What lies under the level is the same in both. The second state has the first's fixed part.

@@ -1,5 +1,6 @@
 -- What the changes of a state leave: at each path, of each access, and in the rest.
-use Rattle.std.proofs.Common.{◌≡◌, ◌≢◌, ℕ, zero, suc, [], ◌∷◌, ◌==◌, arith, Bool, true, false, ◌&&◌, ◌||◌, not, Option, Some, None, refl, sym, ap, ◌∙◌, is_eq, ◌⊎◌, inl, inr}
+use Rattle.std.proofs.Common.{◌≡◌, ◌≢◌, ℕ, zero, suc, [], ◌∷◌, ◌==◌, arith, Bool, true, false, ◌&&◌, ◌||◌, not, Option, Some, None, refl, sym, ap}
+use Rattle.std.proofs.Common.{◌∙◌, is_eq, ◌⊎◌, inl, inr}
 use Rattle.std.proofs.lemmas.Bool.Decides.{nat_tests}
 use Rattle.std.specs.Prelude.{List, option_map, slice_get, slice_set, if◌then◌else◌}
 use Rattle.std.specs.Ordering.{eq_by_cmp}
@@ -17,15 +18,14 @@ use Rattle.bk_space.specs.declared.reference.Mode.TheVariants.{Supervisor}
 use Rattle.bk_space.specs.declared.reference.Space.TheVariants.{D}
 use Rattle.bk_space.specs.declared.reference.Width.TheVariants.{Word}
 use Rattle.bk_state.specs.State.{State, Object, Contents, Triple, triple_cmp, find, facts_at, holds}
-use Rattle.bk_state.specs.Changes.{changed_at, changed_by, with_triple, without_group}
-use Rattle.bk_state.specs.declared.call.Call.{Call}
-use Rattle.bk_state.specs.declared.call.Call.TheVariants.{ByRule, Other}
-use Rattle.bk_state.specs.declared.call.Service.TheVariants.{Window, Unwindow, Deposit, Send, Receive, LineOut, LineIn, Entry, Identify, Quota, Pause, SetFaultEntry, Stop}
-use Rattle.bk_state.specs.Answers.{with_contents, sent_by}
+use Rattle.bk_state.specs.RowCalls.{changed_at, changed_by}
+use Rattle.bk_state.specs.AccessCalls.{with_triple}
+use Rattle.bk_state.specs.TreeCalls.{without_group}
+use Rattle.bk_state.specs.Contents.{with_contents}
+use Rattle.bk_system.specs.Arrivals.{taking, arrived}
+use Rattle.bk_system.specs.Turn.{stored_in, written_by, written, less}
 use Rattle.bk_state.proofs.Orders.{triple_total}
 use Rattle.bk_state.proofs.Triples.{same_triple}
-use Rattle.bk_system.specs.Slot.{taking, arrived}
-use Rattle.bk_system.specs.Turn.{stored_in, written_by, written, less}
 use Rattle.bk_laws.proofs.Tests.{false_if}
 
 -- the facts of an object, if there is one
@@ -170,26 +170,6 @@ pub slice_get-set_other : {A : Type 0} (xs : List A) (n : ℕ) (x : A) (k : ℕ)
 slice_get-set_other xs n x k apart = slice_get-set xs n x k
     ∙ ap (λ b. if b then option_map (λ _. x) (slice_get xs k) else slice_get xs k) (false_if (k == n) (λ is. apart (grind (arith, nat_tests, is))))
 
--- ---- bytes that go out
-
--- no call but line out sends a byte
-pub sends_by : (P : Call → Type 0) → P (Other LineOut) → ((call : Call) → ((v : State) (general : List ℕ) → sent_by v call general ≡ None) → P call) →
-    (call : Call) → P call
-sends_by P out none (ByRule rule) = none (ByRule rule) (λ v general. refl)
-sends_by P out none (Other Window) = none (Other Window) (λ v general. refl)
-sends_by P out none (Other Unwindow) = none (Other Unwindow) (λ v general. refl)
-sends_by P out none (Other Deposit) = none (Other Deposit) (λ v general. refl)
-sends_by P out none (Other Send) = none (Other Send) (λ v general. refl)
-sends_by P out none (Other Receive) = none (Other Receive) (λ v general. refl)
-sends_by P out none (Other LineOut) = out
-sends_by P out none (Other LineIn) = none (Other LineIn) (λ v general. refl)
-sends_by P out none (Other Entry) = none (Other Entry) (λ v general. refl)
-sends_by P out none (Other Identify) = none (Other Identify) (λ v general. refl)
-sends_by P out none (Other Quota) = none (Other Quota) (λ v general. refl)
-sends_by P out none (Other Pause) = none (Other Pause) (λ v general. refl)
-sends_by P out none (Other SetFaultEntry) = none (Other SetFaultEntry) (λ v general. refl)
-sends_by P out none (Other Stop) = none (Other Stop) (λ v general. refl)
-
 -- ---- all else
 
 -- a change at one path changes objects alone
@@ -221,7 +201,3 @@ pub applied-is : (windows : List (Option Path)) (v : State) (w : Option Write) �
     applied (written windows) v w ≡ with_objects v (applied (written windows) v w).objects
 applied-is windows v None = refl
 applied-is windows v (Some w) = written-is windows v w
-
--- so it keeps the fixed part
-pub applied-fixed : (windows : List (Option Path)) (v : State) (w : Option Write) → (applied (written windows) v w).fixed ≡ v.fixed
-applied-fixed windows v w = ap (λ u. u.fixed) (applied-is windows v w)

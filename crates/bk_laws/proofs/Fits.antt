@@ -1,5 +1,6 @@
 -- What an event makes of the contents of an object fits the object's kind as before.
-use Rattle.std.proofs.Common.{◌≡◌, ℕ, ◌+◌, ◌≤◌, Bool, true, false, List, [], ◌∷◌, ◌++◌, length, refl, ap, ◌∙◌, arith, nat_lt, min, length-append, length-set, ◌==◌}
+use Rattle.std.proofs.Common.{◌≡◌, ℕ, ◌+◌, ◌≤◌, Bool, true, false, List, [], ◌∷◌, ◌++◌, length, refl, ap, ◌∙◌, arith, nat_lt, min, length-append}
+use Rattle.std.proofs.Common.{length-set, ◌==◌}
 use Rattle.std.proofs.lemmas.Bool.Decides.{nat_tests}
 use Rattle.std.proofs.lemmas.List.Folds.{list_all-append}
 use Rattle.std.specs.List.{fold}
@@ -8,13 +9,14 @@ use Rattle.bk_level.proofs.LevelOrder.{and_second, and_both}
 use Rattle.bk_space.specs.AddrSpace.{Write}
 use Rattle.bk_space.specs.declared.reference.Width.{Width}
 use Rattle.bk_space.specs.declared.reference.Width.TheVariants.{Word, Byte}
+use Rattle.bk_object.specs.Limits.{most_messages, words_of_message, most_lost, most_typed}
 use Rattle.bk_object.specs.declared.Kind.{Kind}
 use Rattle.bk_object.specs.declared.Kind.TheVariants.{Directory, Segment, Mailbox, Line}
 use Rattle.bk_object.specs.declared.Facts.{Facts}
 use Rattle.bk_state.specs.State.{Fixed, Contents, Words, Messages, Typed}
 use Rattle.bk_state.specs.Secure.{FitsKind}
-use Rattle.bk_state.specs.Answers.{with_word, put, without_message, without_byte}
-use Rattle.bk_system.specs.Slot.{kept, typed}
+use Rattle.bk_state.specs.Contents.{with_word, put, without_message, without_byte, kept}
+use Rattle.bk_system.specs.Arrivals.{typed}
 use Rattle.bk_system.specs.Turn.{stored, stored_in}
 
 -- contents that fit a kind fit it after the change
@@ -32,17 +34,17 @@ fits_with_word place word fixed (Line n) facts (Typed bytes) h = h
 fits_with_word place word fixed (Line n) facts other h = absurd h
 
 -- a message of four words
-pub fits_put : (message : List ℕ) → length message ≡ 4 → KeepsFit (put message)
+pub fits_put : (message : List ℕ) → length message ≡ words_of_message → KeepsFit (put message)
 fits_put message four fixed Directory facts c (none, is) = (none, ap (put message) is)
 fits_put message four fixed Segment facts (Words words) h = h
 fits_put message four fixed Segment facts other h = absurd h
-fits_put message four fixed Mailbox facts (Messages waiting lost) (none, few, each, small) = by (nat_lt (length waiting) 16) refl
+fits_put message four fixed Mailbox facts (Messages waiting lost) (none, few, each, small) = by (nat_lt (length waiting) most_messages) refl
   where
-    by : (b : Bool) → nat_lt (length waiting) 16 ≡ b → FitsKind fixed Mailbox facts (if b then Messages (waiting ++ message ∷ []) lost else Messages waiting (min (lost + 1) 65535))
+    by : (b : Bool) → nat_lt (length waiting) most_messages ≡ b → FitsKind fixed Mailbox facts (if b then Messages (waiting ++ message ∷ []) lost else Messages waiting (min (lost + 1) most_lost))
     by true is = (
       none,
       grind (arith, nat_tests, is, length-append waiting (message ∷ [])),
-      list_all-append (λ message. length message == 4) waiting (message ∷ []) ∙ and_both _ _ each (and_both _ true (ap (λ n. n == 4) four) refl),
+      list_all-append (λ message. length message == words_of_message) waiting (message ∷ []) ∙ and_both _ _ each (and_both _ true (ap (λ n. n == words_of_message) four) refl),
       small,
     )
     by false is = (none, few, each, grind arith)
@@ -56,7 +58,7 @@ fits_without_message fixed Directory facts c (none, is) = (none, ap without_mess
 fits_without_message fixed Segment facts (Words words) h = h
 fits_without_message fixed Segment facts other h = absurd h
 fits_without_message fixed Mailbox facts (Messages [] lost) h = h
-fits_without_message fixed Mailbox facts (Messages (message ∷ waiting) lost) (none, few, each, small) = (none, omega arith, and_second (length message == 4) _ each, omega arith)
+fits_without_message fixed Mailbox facts (Messages (message ∷ waiting) lost) (none, few, each, small) = (none, omega arith, and_second (length message == words_of_message) _ each, omega arith)
 fits_without_message fixed Mailbox facts other h = absurd h
 fits_without_message fixed (Line n) facts (Typed bytes) h = h
 fits_without_message fixed (Line n) facts other h = absurd h
@@ -86,12 +88,12 @@ fits_stored w fixed Mailbox facts other h = absurd h
 fits_stored w fixed (Line n) facts (Typed bytes) h = h
 fits_stored w fixed (Line n) facts other h = absurd h
 
--- a line keeps at most 64 bytes
-few_kept : (bytes waiting : List ℕ) → length waiting ≤ 64 → length (fold kept waiting bytes) ≤ 64
+-- a line keeps no more bytes than it can
+few_kept : (bytes waiting : List ℕ) → length waiting ≤ most_typed → length (fold kept waiting bytes) ≤ most_typed
 few_kept [] waiting few = few
-few_kept (byte ∷ bytes) waiting few = few_kept bytes (kept waiting byte) (by (nat_lt (length waiting) 64) refl)
+few_kept (byte ∷ bytes) waiting few = few_kept bytes (kept waiting byte) (by (nat_lt (length waiting) most_typed) refl)
   where
-    by : (b : Bool) → nat_lt (length waiting) 64 ≡ b → length (if b then waiting ++ byte ∷ [] else waiting) ≤ 64
+    by : (b : Bool) → nat_lt (length waiting) most_typed ≡ b → length (if b then waiting ++ byte ∷ [] else waiting) ≤ most_typed
     by true is = grind (arith, nat_tests, is, length-append waiting (byte ∷ []))
     by false is = few
 

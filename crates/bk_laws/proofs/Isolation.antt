@@ -11,7 +11,7 @@ pub runs : LawRuns
 runs = runs_alike law_secure law_unseen law_seen
 
 pub kept : LawKept
-kept = law_kept runs
+kept = law_kept law_secure law_unseen law_seen runs
 
 pub lines : LawLines
 lines = law_lines law_secure kept

@@ -15,14 +15,14 @@ pub mod SecureNew
 pub mod SecureGroup
 pub mod SecureContents
 pub mod SecureProcesses
-pub mod SecureRules
-pub mod SecureServices
+pub mod SecureCalls
 pub mod SecureEvents
 -- two states in which the same lies under a level
 pub mod Alike
-pub mod SeenByFixed
+pub mod SeenItems
 -- what a level does not see
 pub mod Unseen
+pub mod UnseenChanges
 pub mod UnseenCalls
 pub mod UnseenTurns
 pub mod UnseenEvents
@@ -39,8 +39,9 @@ pub mod SeenTurns
 pub mod SeenEvents
 -- runs
 pub mod Runs
-pub mod RunEvents
 pub mod Kept
 pub mod Numbered
 pub mod LineRecords
 pub mod Isolation
+-- what is told by hand
+pub mod ExampleLemmas

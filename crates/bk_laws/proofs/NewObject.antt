@@ -1,5 +1,6 @@
 -- What a new object at a free path leaves of facts, cells, levels and used numbers.
-use Rattle.std.proofs.Common.{◌≡◌, ℕ, ◌+◌, ◌≤◌, ◌<◌, Bool, true, false, ◌&&◌, not, List, [], ◌∷◌, length, Option, Some, None, refl, sym, ap, ◌∙◌, ◌==◌, arith, unwrap_or}
+use Rattle.std.proofs.Common.{◌≡◌, ℕ, ◌+◌, ◌≤◌, ◌<◌, Bool, true, false, ◌&&◌, not, List, [], ◌∷◌, length, Option, Some, None, refl, sym, ap, ◌∙◌}
+use Rattle.std.proofs.Common.{◌==◌, arith, unwrap_or}
 use Rattle.std.proofs.lemmas.Cmp.{nat_eq_equiv}
 use Rattle.std.proofs.lemmas.List.Sums.{sum_by-cons}
 use Rattle.std.specs.Prelude.{option_map, if◌then◌else◌}
@@ -8,17 +9,18 @@ use Rattle.bk_base.proofs.Totals.{part, total_of, total-alike, total-le, total-i
 use Rattle.bk_level.specs.Levels.{dominates}
 use Rattle.bk_path.specs.Paths.{Path, path_cmp, is_same}
 use Rattle.bk_path.specs.Orders.{path_total, path_apart, same_path, is_same-itself}
+use Rattle.bk_object.specs.Limits.{largest_quota}
 use Rattle.bk_object.specs.Modes.{Mode, has}
 use Rattle.bk_object.specs.Kinds.{is_directory}
-use Rattle.bk_object.specs.Rows.{in_row}
+use Rattle.bk_object.specs.Rows.{in_row, most_subjects}
 use Rattle.bk_object.specs.declared.Kind.TheVariants.{Line}
 use Rattle.bk_object.specs.declared.Facts.{Facts}
 use Rattle.bk_quota.specs.Charges.{passes, charge_of}
 use Rattle.bk_state.specs.State.{State, Object, find, facts_at, level_of}
 use Rattle.bk_state.specs.Quota.{is_upgraded, governing, level_number, quota_at, used}
 use Rattle.bk_state.specs.Secure.{Secure, FitsKind}
-use Rattle.bk_laws.proofs.Tests.{passes_there}
 use Rattle.bk_laws.proofs.Changes.{facts_in, with_objects, facts_at-insert}
+use Rattle.bk_laws.proofs.Tests.{passes_there}
 use Rattle.bk_laws.proofs.Shapes.{is_upgraded-by, level_number-by, quota_at-by, share, share_at, part-share}
 
 no_facts : (o : Option Object) → facts_in o ≡ None → o ≡ None
@@ -39,9 +41,10 @@ pub record Joins (v : State) (path : Path) (o : Object) : Type 0 where
   pub level : o.facts.level < length v.fixed.levels
   pub kind : FitsKind v.fixed o.facts.kind o.facts o.contents
   pub no_line : (n : ℕ) → o.facts.kind ≡ Line n → ⊥
+  pub places : length o.facts.row ≡ most_subjects
   pub row : (s : ℕ) (mode : Mode) → has (in_row o.facts.row s) mode ≡ true → ⊥
   pub room : used v (governing v path) + charge_of o.facts (level_number v path) ≤ quota_at v (governing v path)
-  pub limit : is_cell o.facts (level_number v path) ≡ true → (1 ≤ o.facts.quota) × (o.facts.quota ≤ 3904)
+  pub limit : is_cell o.facts (level_number v path) ≡ true → (1 ≤ o.facts.quota) × (o.facts.quota ≤ largest_quota)
   pub no_limit : is_cell o.facts (level_number v path) ≡ false → o.facts.quota ≡ 0
 
 module _ (v : State) (entry : ℕ) (path : Path) (o : Object) where

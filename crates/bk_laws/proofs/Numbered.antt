@@ -18,19 +18,30 @@ use Rattle.bk_space.specs.AddrSpace.{applied}
 use Rattle.bk_space.specs.declared.cause.Cause as fault
 use Rattle.bk_space.specs.declared.cause.Cause.TheVariants as faults
 use Rattle.bk_state.specs.declared.call.Call.{Call}
+use Rattle.bk_state.specs.declared.call.Call.TheVariants.{ByRule, Other}
+use Rattle.bk_state.specs.declared.call.Service.TheVariants.{Window, Unwindow, Deposit, Send, Receive, LineOut, LineIn, Entry, Identify, Quota}
+use Rattle.bk_state.specs.declared.call.Service.TheVariants.{Pause, SetFaultEntry, Stop}
+use Rattle.bk_state.specs.declared.rule.Rule.TheVariants.{GetRead, GetAppend, GetExecute, GetWrite, Release, Give, Rescind, Create, DeleteGroup}
+use Rattle.bk_system.specs.declared.at.At.{At}
 use Rattle.bk_state.specs.State.{State, Object, Contents, Children, Words, Messages, Typed, find, process_of}
 use Rattle.bk_state.specs.Secure.{Secure, FitsKind}
-use Rattle.bk_state.specs.Checks.{Cause, NotInRow, AboveGreatest, WrongCurrent, NoParentWrite, LevelFalls, Taken, OverQuota, NotHeld, Empty, TooLong, IsRoot, NoCall, NoPath, NotNamed, WrongKind, BadArgument, NoObject, cause_number}
-use Rattle.bk_state.specs.Calls.{call_of, call_refusal, path_in}
-use Rattle.bk_state.specs.Answers.{called, called_by, answered_by, byte_on, sent_by}
-use Rattle.bk_system.specs.Turn.{byte_item, cause_in, fault_number, faulted, is_reflected, ended, took, taken_by, taken, turn_of, written}
-use Rattle.bk_system.specs.Space.{space_of}
+use Rattle.bk_state.specs.declared.cause.Cause.{Cause}
+use Rattle.bk_state.specs.declared.cause.Cause.TheVariants.{NotInRow, AboveGreatest, WrongCurrent, NoParentWrite, LevelFalls, Taken, OverQuota}
+use Rattle.bk_state.specs.declared.cause.Cause.TheVariants.{NotHeld, Empty, TooLong, IsRoot, NoCall, NoPath, NotNamed, WrongKind, BadArgument}
+use Rattle.bk_state.specs.declared.cause.Cause.TheVariants.{NoObject}
+use Rattle.bk_state.specs.Causes.{cause_number, cause_in}
+use Rattle.bk_state.specs.Calls.{call_of, definition_of, call_refusal}
+use Rattle.bk_state.specs.Request.{Request, register, request_in}
+use Rattle.bk_state.specs.Answers.{called, called_by, answered_by}
+use Rattle.bk_state.specs.QueueCalls.{byte_on}
+use Rattle.bk_system.specs.Turn.{byte_item, fault_number, faulted, is_reflected, ended, executed, turn_by, turn_of_process, turn_of, written}
 use Rattle.bk_system.specs.Event.{Event, Arrive, Turn, EndSlot, happens, all_happen}
+use Rattle.bk_system.proofs.FixedPart.{applied-fixed}
+use Rattle.bk_system.specs.Space.{space_of}
 use Rattle.bk_laws.specs.Laws.{LawSecure}
 use Rattle.bk_laws.proofs.SecureContents.{secure_applied}
 use Rattle.bk_laws.proofs.SecureProcesses.{process_subject}
 use Rattle.bk_laws.proofs.Tests.{every-append}
-use Rattle.bk_laws.proofs.Changes.{sends_by, applied-fixed}
 
 -- the numbers of all of them
 abbrev pub Numbered : List ReportItem → Type 0
@@ -92,16 +103,37 @@ module _ (v : State) (sec : Secure v) where
   on_line byte path None is = tt
   on_line byte path (Some object) is = on_kind byte object.facts.kind object.facts object.contents (sec.kinds path object is)
 
-  sent_line : (call : Call) (general : List ℕ) → IsOnLine v (sent_by v call general)
-  sent_line call general = sends_by (λ c. IsOnLine v (sent_by v c general))
-      (on_line (slice_index general 3 % 256) (path_in general) (find v (path_in general)) refl) (λ c none. subst (IsOnLine v) (sym (none v general)) tt) call
+  -- no call but line out sends a byte
+  each_line : (call : Call) (request : Request) → IsOnLine v ((definition_of call).sends v request)
+  each_line (Other LineOut) request = on_line (register request 3 % 256) request.path (find v request.path) refl
+  each_line (ByRule GetRead) request = tt
+  each_line (ByRule GetAppend) request = tt
+  each_line (ByRule GetExecute) request = tt
+  each_line (ByRule GetWrite) request = tt
+  each_line (ByRule Release) request = tt
+  each_line (ByRule Give) request = tt
+  each_line (ByRule Rescind) request = tt
+  each_line (ByRule Create) request = tt
+  each_line (ByRule DeleteGroup) request = tt
+  each_line (Other Window) request = tt
+  each_line (Other Unwindow) request = tt
+  each_line (Other Deposit) request = tt
+  each_line (Other Send) request = tt
+  each_line (Other Receive) request = tt
+  each_line (Other LineIn) request = tt
+  each_line (Other Entry) request = tt
+  each_line (Other Identify) request = tt
+  each_line (Other Quota) request = tt
+  each_line (Other Pause) request = tt
+  each_line (Other SetFaultEntry) request = tt
+  each_line (Other Stop) request = tt
 
   called_line : (s : ℕ) (p : Process) (number : ℕ) → IsOnLine v (called v s p number).sent
   unfolding called
   called_line s p number = by_call (call_of number)
     where
       by_cause : (call : Call) (cause : Option Cause) → IsOnLine v (answered_by v s p call cause).sent
-      by_cause call None = sent_line call p.registers.general
+      by_cause call None = each_line call (request_in p.registers.general)
       by_cause call (Some cause) = tt
 
       by_call : (call : Option Call) → IsOnLine v (called_by v s p call).sent
@@ -110,55 +142,59 @@ module _ (v : State) (sec : Secure v) where
 
 -- ---- the items of a turn
 
-module _ (slot turn : ℕ) (slots : slot < 2 ^ 64) (turns : turn < 2 ^ 64) where
-  byte_numbered : (v : State) → Secure v → length v.fixed.lines ≤ 256 → (sent : Option (ℕ × ℕ)) → IsOnLine v sent → Numbered (byte_item slot turn sent)
-  byte_numbered v sec lines None on = tt
-  byte_numbered v sec lines (Some sent) on = ((slots, turns, omega (arith, lines, on)), tt)
+-- the numbers of a turn are told whole
+abbrev pub IsAtNumbered : At → Type 0
+IsAtNumbered at = (at.slot < 2 ^ 64) × (at.turn < 2 ^ 64)
 
-  module _ (s : ℕ) (subjects : s < 2 ^ 64) where
-    ended_numbered : (v : State) → Secure v → length v.fixed.lines ≤ 256 → (p : Process) (references : ℕ) (outcome : event.Event) → Numbered (ended v slot turn s p references outcome).items
+module _ (at : At) (small : IsAtNumbered at) where
+  byte_numbered : (v : State) → Secure v → length v.fixed.lines ≤ 256 → (sent : Option (ℕ × ℕ)) → IsOnLine v sent → Numbered (byte_item at sent)
+  byte_numbered v sec lines None on = tt
+  byte_numbered v sec lines (Some sent) on = ((small.0, small.1, omega (arith, lines, on)), tt)
+
+  module _ (subjects : at.subject < 2 ^ 64) where
+    ended_numbered : (v : State) → Secure v → length v.fixed.lines ≤ 256 → (p : Process) (references : ℕ) (outcome : event.Event) → Numbered (ended v at p references outcome).items
     ended_numbered v sec lines p references ends.Ran = tt
     ended_numbered v sec lines p references (ends.Call number) =
-        let c = called v s p number in
-        ((slots, turns, subjects, cause_in_small c.cause), byte_numbered v sec lines c.sent (called_line v sec s p number))
-    ended_numbered v sec lines p references (ends.Fault cause) = by (is_reflected v s p (slice_index p.entries (fault_number cause)))
+        let c = called v at.subject p number in
+        ((small.0, small.1, subjects, cause_in_small c.cause), byte_numbered v sec lines c.sent (called_line v sec at.subject p number))
+    ended_numbered v sec lines p references (ends.Fault cause) = by (is_reflected v at.subject p (slice_index p.entries (fault_number cause)))
       where
-        by : (reflected : Bool) → Numbered (faulted v slot turn s p (fault_number cause) references (slice_index p.entries (fault_number cause)) reflected).items
-        by true = ((slots, turns, subjects, fault_small cause), tt)
-        by false = ((slots, turns, subjects, fault_small cause), tt)
+        by : (reflected : Bool) → Numbered (faulted v at p (fault_number cause) references (slice_index p.entries (fault_number cause)) reflected).items
+        by true = ((small.0, small.1, subjects, fault_small cause), tt)
+        by false = ((small.0, small.1, subjects, fault_small cause), tt)
 
-    took_numbered : (v : State) → Secure v → length v.fixed.lines ≤ 256 → (p : Process) (x : Done) → Numbered (took v slot turn s p x).items
-    took_numbered v sec lines p x =
+    executed_numbered : (v : State) → Secure v → length v.fixed.lines ≤ 256 → (p : Process) (x : Done) → Numbered (executed v at p x).items
+    executed_numbered v sec lines p x =
         ended_numbered (applied (written p.windows) v x.write) (secure_applied p.windows v x.write sec)
         (subst (λ f. length f.lines ≤ 256) (sym (applied-fixed p.windows v x.write)) lines) (record p { registers = x.regs }) x.references x.outcome
 
-    by_numbered : (v : State) → Secure v → length v.fixed.lines ≤ 256 → (p : Process) (status : Status9) → Numbered (taken_by v slot turn s p status).items
-    by_numbered v sec lines p Running = took_numbered v sec lines p (exec (space_of v s p.windows) p.registers)
+    by_numbered : (v : State) → Secure v → length v.fixed.lines ≤ 256 → (p : Process) (status : Status9) → Numbered (turn_by v at p status).items
+    by_numbered v sec lines p Running = executed_numbered v sec lines p (exec (space_of v at.subject p.windows) p.registers)
     by_numbered v sec lines p Paused = tt
     by_numbered v sec lines p (Stopped cause) = tt
 
   -- the items of a turn tell whole numbers of the slot, the turn, the subject, the line and the cause
-  pub turn_numbered : (v : State) → Secure v → length v.fixed.lines ≤ 256 → length v.fixed.subjects ≤ 256 → (s : ℕ) → Numbered (turn_of slot turn v s).items
+  pub turn_numbered : (v : State) → Secure v → length v.fixed.lines ≤ 256 → length v.fixed.subjects ≤ 256 → Numbered (turn_of at v).items
   unfolding turn_of
-  turn_numbered v sec lines subjects s = by (process_of v s) refl
+  turn_numbered v sec lines subjects = by (process_of v at.subject) refl
     where
-      by : (p : Option Process) → process_of v s ≡ p → Numbered (taken v slot turn s p).items
+      by : (p : Option Process) → process_of v at.subject ≡ p → Numbered (turn_of_process v at p).items
       by None there = tt
-      by (Some p) there = by_numbered s (omega (arith, subjects, process_subject v s p sec there)) v sec lines p p.status
+      by (Some p) there = by_numbered (omega (arith, subjects, process_subject v at.subject p sec there)) v sec lines p p.status
 
 -- ---- the items of a list of events
 
 -- the event's numbers are told whole
 abbrev pub IsEventNumbered : Event → Type 0
 IsEventNumbered (Arrive line bytes) = ⊤
-IsEventNumbered (Turn slot turn s) = (slot < 2 ^ 64) × (turn < 2 ^ 64)
+IsEventNumbered (Turn at) = IsAtNumbered at
 IsEventNumbered EndSlot = ⊤
 
 module _ (law_secure : LawSecure) where
   event_numbered : (v : State) → Secure v → length v.fixed.lines ≤ 256 → length v.fixed.subjects ≤ 256 → (e : Event) → IsEventNumbered e → Numbered (happens v e).items
   unfolding happens
   event_numbered v sec lines subjects (Arrive line bytes) small = tt
-  event_numbered v sec lines subjects (Turn slot turn s) small = turn_numbered slot turn small.0 small.1 v sec lines subjects s
+  event_numbered v sec lines subjects (Turn at) small = turn_numbered at small v sec lines subjects
   event_numbered v sec lines subjects EndSlot small = tt
 
   -- those of all items of a list of events that start from a secure state

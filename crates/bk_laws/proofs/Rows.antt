@@ -1,12 +1,12 @@
 -- What rows have after a gift and after a rescission, and what a set within another has.
-use Rattle.std.proofs.Common.{◌≡◌, ℕ, zero, suc, Bool, true, false, ◌&&◌, ◌||◌, not, List, [], ◌∷◌, refl, sym, ap, ◌∙◌, ◌==◌, arith, set, get_or, replicate, ◌⊎◌, inl, inr}
+use Rattle.std.proofs.Common.{◌≡◌, ℕ, zero, suc, Bool, true, false, ◌&&◌, ◌||◌, not, List, [], ◌∷◌, refl, sym, ap, ◌∙◌, ◌==◌, arith, set, get_or}
+use Rattle.std.proofs.Common.{replicate, ◌⊎◌, inl, inr}
 use Rattle.std.proofs.lemmas.Bool.Decides.{nat_tests}
 use Rattle.bk_level.proofs.LevelOrder.{and_first, and_both}
-use Rattle.bk_object.specs.Modes.{Mode, Read, Execute, Write, Append, has, no_modes, union, without, is_within}
+use Rattle.bk_object.specs.Modes.{Mode, Read, Execute, Write, Append, has, no_modes, union, without, is_within, only}
 use Rattle.bk_object.specs.Rows.{in_row, given, rescinded}
 use Rattle.bk_object.specs.declared.Modes.{Modes}
 use Rattle.bk_object.proofs.ModeLemmas.{has-union, has-without}
-use Rattle.bk_state.specs.Checks.{only}
 
 -- ---- sets of modes
 

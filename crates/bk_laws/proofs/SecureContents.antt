@@ -9,12 +9,12 @@ use Rattle.bk_base.specs.Maps.{map_values}
 use Rattle.bk_state.specs.State.{State, Object, Contents, find}
 use Rattle.bk_state.specs.Start.{is_line}
 use Rattle.bk_state.specs.Secure.{Secure, FitsKind}
-use Rattle.bk_state.specs.Changes.{changed_at}
-use Rattle.bk_state.specs.Answers.{with_contents}
-use Rattle.bk_system.specs.Slot.{typed, taking, arrived}
+use Rattle.bk_state.specs.RowCalls.{changed_at}
+use Rattle.bk_state.specs.Contents.{with_contents}
+use Rattle.bk_system.specs.Arrivals.{typed, taking, arrived}
 use Rattle.bk_system.specs.Turn.{stored_in, written_by, written, with_pushes}
-use Rattle.bk_laws.proofs.Tests.{some_same}
 use Rattle.bk_laws.proofs.Changes.{find-changed_at, facts_at-contents, find-arrived, facts_at-arrived, changed_at-is}
+use Rattle.bk_laws.proofs.Tests.{some_same}
 use Rattle.bk_laws.proofs.Fits.{KeepsFit, fits_stored, fits_typed}
 use Rattle.bk_laws.proofs.SecureFrame.{secure_same_facts}
 

@@ -1,9 +1,10 @@
 -- A new object under its cell's quota keeps a secure state secure.
-use Rattle.std.proofs.Common.{◌≡◌, ℕ, ◌+◌, ◌≤◌, Bool, true, false, ◌&&◌, [], ◌∷◌, Some, None, refl, sym, ap, ◌∙◌, subst, arith, inl, inr}
+use Rattle.std.proofs.Common.{◌≡◌, ℕ, ◌+◌, ◌≤◌, Bool, true, false, ◌&&◌, [], ◌∷◌, length, Some, None, refl, sym, ap, ◌∙◌, subst, arith, inl, inr}
 use Rattle.std.specs.Prelude.{if◌then◌else◌}
 use Rattle.bk_level.specs.Levels.{dominates}
 use Rattle.bk_path.specs.Paths.{Path, is_same, parent}
 use Rattle.bk_path.specs.Orders.{same_path}
+use Rattle.bk_object.specs.Limits.{largest_quota}
 use Rattle.bk_object.specs.Modes.{has}
 use Rattle.bk_object.specs.Kinds.{is_directory}
 use Rattle.bk_object.specs.Rows.{in_row}
@@ -12,9 +13,10 @@ use Rattle.bk_quota.specs.Charges.{passes, charge_of}
 use Rattle.bk_state.specs.State.{State, Object, find, facts_at, level_of}
 use Rattle.bk_state.specs.Quota.{governing, level_number, quota_at, used}
 use Rattle.bk_state.specs.Secure.{Secure, FitsKind, HasCell}
-use Rattle.bk_laws.proofs.Tests.{false_if, some_same, passes_there}
 use Rattle.bk_laws.proofs.Changes.{find-insert, facts_at-insert}
-use Rattle.bk_laws.proofs.NewObject.{Joins, joined, facts_at-old, quota_at-new, quota_at-old, kept, is_upgraded-kept, extra, used-joined, used-new, is_upgraded-new}
+use Rattle.bk_laws.proofs.Tests.{false_if, some_same, passes_there}
+use Rattle.bk_laws.proofs.NewObject.{Joins, joined, facts_at-old, quota_at-new, quota_at-old, kept, is_upgraded-kept, extra, used-joined, used-new}
+use Rattle.bk_laws.proofs.NewObject.{is_upgraded-new}
 
 module _ (v : State) (entry : ℕ) (path : Path) (o : Object) (sec : Secure v) (free : facts_at v (entry ∷ path) ≡ None) (joins : Joins v path o) where
   abbrev w : State
@@ -57,15 +59,15 @@ module _ (v : State) (entry : ℕ) (path : Path) (o : Object) (sec : Secure v) (
       inr (is_upgraded-kept v entry path o sec free joins (e ∷ q) f there ∙ up)
 
   -- the new object has a cell where it is one by its facts
-  new_cell : HasCell w (entry ∷ path) → (1 ≤ o.facts.quota) × (o.facts.quota ≤ 3904)
+  new_cell : HasCell w (entry ∷ path) → (1 ≤ o.facts.quota) × (o.facts.quota ≤ largest_quota)
   new_cell (inl empty) = cc
   new_cell (inr up) = joins.limit (sym (is_upgraded-new v entry path o sec free joins) ∙ up)
 
-  limits : (q : Path) (b : Bool) → is_same q (entry ∷ path) ≡ b → HasCell w q → (1 ≤ quota_at w q) × (quota_at w q ≤ 3904)
+  limits : (q : Path) (b : Bool) → is_same q (entry ∷ path) ≡ b → HasCell w q → (1 ≤ quota_at w q) × (quota_at w q ≤ largest_quota)
   limits q true same cell =
-      subst (λ p. (1 ≤ quota_at w p) × (quota_at w p ≤ 3904)) (sym (same_path q (entry ∷ path) same))
-      (subst (λ n. (1 ≤ n) × (n ≤ 3904)) (sym (quota_at-new v entry path o)) (new_cell (subst (HasCell w) (same_path q (entry ∷ path) same) cell)))
-  limits q false same cell = subst (λ n. (1 ≤ n) × (n ≤ 3904)) (sym (quota_at-old v entry path o q same)) (sec.limits q (had_cell q same cell))
+      subst (λ p. (1 ≤ quota_at w p) × (quota_at w p ≤ largest_quota)) (sym (same_path q (entry ∷ path) same))
+      (subst (λ n. (1 ≤ n) × (n ≤ largest_quota)) (sym (quota_at-new v entry path o)) (new_cell (subst (HasCell w) (same_path q (entry ∷ path) same) cell)))
+  limits q false same cell = subst (λ n. (1 ≤ n) × (n ≤ largest_quota)) (sym (quota_at-old v entry path o q same)) (sec.limits q (had_cell q same cell))
 
   no_limits : (q : Path) (b : Bool) → is_same q (entry ∷ path) ≡ b → ¬ HasCell w q → quota_at w q ≡ 0
   no_limits q true same none =
@@ -102,6 +104,11 @@ module _ (v : State) (entry : ℕ) (path : Path) (o : Object) (sec : Secure v) (
   pub secure_joined : Secure w
   secure_joined = record {
     processes = sec.processes;
+    shape = record {
+      rows = λ p f is. split _ p f is (λ at same. ap (λ g. length g.row) same ∙ joins.places) (λ there. sec.shape.rows p f there);
+      processes = sec.shape.processes;
+    };
+    distinct = sec.distinct;
     root = passes-kept _ [] sec.root;
     parents = λ e p f is. split _ (e ∷ p) f is
         (λ at same. subst (λ g. passes (λ above. is_directory above.kind && dominates (level_of v g) (level_of v above)) (facts_at w p) ≡ true) (sym same)

@@ -1,117 +1,111 @@
 -- Every event keeps a secure state secure.
-use Rattle.std.proofs.Common.{◌≡◌, ℕ, ◌<◌, Bool, true, false, List, [], ◌∷◌, length, Option, Some, None, refl, sym, ◌∙◌, subst}
+use Rattle.std.proofs.Common.{◌≡◌, ℕ, Bool, true, false, List, [], ◌∷◌, Option, Some, None, refl, ◌∙◌, subst}
 use Rattle.std.specs.Prelude.{slice_set, slice_index}
 use Rattle.bk_space.specs.AddrSpace.{applied}
 use Rattle.bk_exec.specs.declared.event.Event as execution
 use Rattle.bk_exec.specs.declared.event.Event.TheVariants as ends
-use Rattle.bk_exec.specs.Exec.{Done, exec}
+use Rattle.bk_exec.specs.Exec.{exec}
 use Rattle.bk_process.specs.declared.process.Process.{Process}
 use Rattle.bk_process.specs.declared.status.Status9.{Status9}
 use Rattle.bk_process.specs.declared.status.Status9.TheVariants.{Running, Paused, Stopped}
 use Rattle.bk_state.specs.declared.call.Call.{Call}
-use Rattle.bk_state.specs.declared.call.Call.TheVariants.{ByRule, Other}
+use Rattle.bk_state.specs.Causes.{answer_number, cause_number}
+use Rattle.bk_state.specs.declared.cause.Cause.TheVariants.{NoCall}
 use Rattle.bk_state.specs.State.{State, process_of}
 use Rattle.bk_state.specs.Secure.{Secure}
-use Rattle.bk_state.specs.Checks.{Cause}
-use Rattle.bk_state.specs.Calls.{call_of, request_in, call_refusal}
-use Rattle.bk_state.specs.Answers.{Called, outcome, answered_by, called_by, called}
+use Rattle.bk_state.specs.declared.cause.Cause.{Cause}
+use Rattle.bk_state.specs.Calls.{call_of, call_refusal}
+use Rattle.bk_state.specs.Request.{request_in}
+use Rattle.bk_state.specs.Answers.{Called, outcome, reply, with_call, answered_by, called_by, called}
 use Rattle.bk_system.specs.Event.{Event, Arrive, Turn, EndSlot, happens}
+use Rattle.bk_system.specs.Turn.{written, with_process, with_pushes, fault_number, is_reflected, entered, faulted, ended, turn_by}
+use Rattle.bk_system.specs.Turn.{turn_of_process, turn_of}
+use Rattle.bk_system.specs.declared.at.At.{At}
+use Rattle.bk_laws.proofs.Changes.{with_changes}
+use Rattle.bk_system.proofs.FixedPart.{happens-fixed}
 use Rattle.bk_system.specs.Space.{space_of}
-use Rattle.bk_system.specs.Turn.{written, with_process, with_pushes, fault_number, is_reflected, entered, faulted, ended, took, taken_by, taken, turn_of}
-use Rattle.bk_system.specs.Slot.{arrived, slot_ended}
-use Rattle.bk_system.proofs.Bounds.{turn_of-Bounded}
 use Rattle.bk_laws.specs.Laws.{KeepsSecure, LawReached}
-use Rattle.bk_laws.proofs.Changes.{with_changes, applied-fixed}
+use Rattle.bk_laws.proofs.Tests.{not_refused}
+use Rattle.bk_laws.proofs.SecureFrame.{IsSound}
+use Rattle.bk_laws.proofs.SecureProcesses.{secure_with_process, secure_slot_ended, process_sound, sound_with_values, sound_executed}
+use Rattle.bk_laws.proofs.SecureCalls.{each_keeps}
 use Rattle.bk_laws.proofs.SecureContents.{secure_applied, secure_with_pushes, secure_arrived}
-use Rattle.bk_laws.proofs.SecureFrame.{has_even_entries}
-use Rattle.bk_laws.proofs.SecureProcesses.{secure_with_process, secure_slot_ended, process_even, process_subject}
-use Rattle.bk_laws.proofs.SecureRules.{secure_changed, changed-changes}
-use Rattle.bk_laws.proofs.SecureServices.{secure_serviced, serviced-changes, even_with_call}
 
 -- ---- kernel calls
 
-secure_outcome : (v : State) (s : ℕ) (call : Call) (general : List ℕ) → s < length v.fixed.subjects → Secure v → call_refusal v s call general ≡ None → Secure (outcome v s call general)
+secure_outcome : (v : State) (s : ℕ) (call : Call) (general : List ℕ) → Secure v → call_refusal v s call general ≡ None → Secure (outcome v s call general)
 unfolding outcome
-secure_outcome v s (ByRule rule) general there sec none = secure_changed v s rule general there sec none
-secure_outcome v s (Other service) general there sec none = secure_serviced v service general sec
+secure_outcome v s call general sec none = (each_keeps call).secure v s general sec (not_refused v s call general none)
 
 outcome-changes : (v : State) (s : ℕ) (call : Call) (general : List ℕ) → outcome v s call general ≡ with_changes v (outcome v s call general)
 unfolding outcome
-outcome-changes v s (ByRule rule) general = changed-changes v s rule (request_in general)
-outcome-changes v s (Other service) general = serviced-changes v service general
+outcome-changes v s call general = (each_keeps call).changes v s (request_in general)
 
 -- objects and current access set of another state, and one process that is another
-secure_joined : (v w : State) (s : ℕ) (p : Process) → w ≡ with_changes v w → Secure w → has_even_entries p ≡ true → Secure (with_process (with_changes v w) s p)
-secure_joined v w s p changes sec even = secure_with_process (with_changes v w) s p (subst Secure changes sec) even
+secure_joined : (v w : State) (s : ℕ) (p : Process) → w ≡ with_changes v w → Secure w → IsSound p → Secure (with_process (with_changes v w) s p)
+secure_joined v w s p changes sec sound = secure_with_process (with_changes v w) s p (subst Secure changes sec) sound
 
 abbrev left_by : State → (s : ℕ) → Called → State
 left_by v s c = record v { objects = c.objects; access = c.access; processes = slice_set v.processes s c.process }
 
-module _ (v : State) (s : ℕ) (p : Process) (there : s < length v.fixed.subjects) (sec : Secure v) (even : has_even_entries p ≡ true) where
-  secure_answered : (call : Call) (o : Option Cause) → call_refusal v s call p.registers.general ≡ o → Secure (left_by v s (answered_by v s p call o))
+module _ (v : State) (at : At) (p : Process) (sec : Secure v) (sound : IsSound p) where
+  secure_answered : (call : Call) (o : Option Cause) → call_refusal v at.subject call p.registers.general ≡ o → Secure (left_by v at.subject (answered_by v at.subject p call o))
   secure_answered call None is =
-      secure_joined v (outcome v s call p.registers.general) s _ (outcome-changes v s call p.registers.general)
-      (secure_outcome v s call p.registers.general there sec is) (even_with_call v s call p.registers.general p is even)
-  secure_answered call (Some cause) is = secure_with_process v s _ sec even
+      secure_joined v (outcome v at.subject call p.registers.general) at.subject _ (outcome-changes v at.subject call p.registers.general)
+      (secure_outcome v at.subject call p.registers.general sec is)
+      (sound_with_values (reply v at.subject call p.registers.general) (with_call call p.registers.general p)
+      ((each_keeps call).sound v at.subject (request_in p.registers.general) p (not_refused v at.subject call p.registers.general is) sound))
+  secure_answered call (Some cause) is = secure_with_process v at.subject _ sec (sound_with_values (answer_number cause ∷ cause_number cause ∷ []) p sound)
 
-  secure_called_by : (o : Option Call) → Secure (left_by v s (called_by v s p o))
-  secure_called_by None = secure_with_process v s _ sec even
-  secure_called_by (Some call) = secure_answered call (call_refusal v s call p.registers.general) refl
+  secure_called_by : (o : Option Call) → Secure (left_by v at.subject (called_by v at.subject p o))
+  secure_called_by None = secure_with_process v at.subject _ sec (sound_with_values (answer_number NoCall ∷ cause_number NoCall ∷ []) p sound)
+  secure_called_by (Some call) = secure_answered call (call_refusal v at.subject call p.registers.general) refl
 
-  secure_called : (number : ℕ) → Secure (left_by v s (called v s p number))
+  secure_called : (number : ℕ) → Secure (left_by v at.subject (called v at.subject p number))
   unfolding called
   secure_called number = secure_called_by (call_of number)
 
   -- ---- what an instruction ends as
 
-  secure_faulted : (slot turn number references entry : ℕ) (reflected : Bool) → Secure (faulted v slot turn s p number references entry reflected).state
-  secure_faulted slot turn number references entry true = secure_with_process (with_pushes v p) s (entered p entry) (secure_with_pushes v p sec) even
-  secure_faulted slot turn number references entry false = secure_with_process v s (record p { status = Stopped number }) sec even
+  secure_faulted : (number references entry : ℕ) (reflected : Bool) → Secure (faulted v at p number references entry reflected).state
+  secure_faulted number references entry true = secure_with_process (with_pushes v p) at.subject (entered p entry) (secure_with_pushes v p sec) sound
+  secure_faulted number references entry false = secure_with_process v at.subject (record p { status = Stopped number }) sec sound
 
-  secure_ended : (slot turn references : ℕ) (event : execution.Event) → Secure (ended v slot turn s p references event).state
-  secure_ended slot turn references ends.Ran = secure_with_process v s p sec even
-  secure_ended slot turn references (ends.Call number) = secure_called number
-  secure_ended slot turn references (ends.Fault cause) =
-      secure_faulted slot turn (fault_number cause) references (slice_index p.entries (fault_number cause)) (is_reflected v s p (slice_index p.entries (fault_number cause)))
+  secure_ended : (references : ℕ) (event : execution.Event) → Secure (ended v at p references event).state
+  secure_ended references ends.Ran = secure_with_process v at.subject p sec sound
+  secure_ended references (ends.Call number) = secure_called number
+  secure_ended references (ends.Fault cause) =
+      secure_faulted (fault_number cause) references (slice_index p.entries (fault_number cause)) (is_reflected v at.subject p (slice_index p.entries (fault_number cause)))
 
 -- ---- turns
 
-secure_took : (v : State) (slot turn s : ℕ) (p : Process) (x : Done) → s < length v.fixed.subjects → Secure v → has_even_entries p ≡ true → Secure (took v slot turn s p x).state
-secure_took v slot turn s p x there sec even =
-    secure_ended (applied (written p.windows) v x.write) s (record p { registers = x.regs })
-    (subst (λ fixed. s < length fixed.subjects) (sym (applied-fixed p.windows v x.write)) there) (secure_applied p.windows v x.write sec) even slot turn x.references x.outcome
-
-secure_taken : (v : State) (slot turn s : ℕ) (o : Option Process) → process_of v s ≡ o → Secure v → Secure (taken v slot turn s o).state
-secure_taken v slot turn s None is sec = sec
-secure_taken v slot turn s (Some p) is sec = by p.status
+secure_turn_of_process : (v : State) (at : At) (o : Option Process) → process_of v at.subject ≡ o → Secure v → Secure (turn_of_process v at o).state
+secure_turn_of_process v at None is sec = sec
+secure_turn_of_process v at (Some p) is sec = by p.status
   where
-    by : (status : Status9) → Secure (taken_by v slot turn s p status).state
-    by Running = secure_took v slot turn s p (exec (space_of v s p.windows) p.registers) (process_subject v s p sec is) sec (process_even v s p sec is)
+    by : (status : Status9) → Secure (turn_by v at p status).state
+    by Running =
+        let x = exec (space_of v at.subject p.windows) p.registers in
+        secure_ended (applied (written p.windows) v x.write) at (record p { registers = x.regs }) (secure_applied p.windows v x.write sec)
+        (sound_executed (space_of v at.subject p.windows) p (process_sound v at.subject p sec is)) x.references x.outcome
     by Paused = sec
     by (Stopped cause) = sec
 
-secure_turn : (slot turn : ℕ) (v : State) (s : ℕ) → Secure v → Secure (turn_of slot turn v s).state
+secure_turn : (at : At) (v : State) → Secure v → Secure (turn_of at v).state
 unfolding turn_of
-secure_turn slot turn v s sec = secure_taken v slot turn s (process_of v s) refl sec
+secure_turn at v sec = secure_turn_of_process v at (process_of v at.subject) refl sec
 
 -- ---- events
 
 pub secure_happens : (v : State) (event : Event) → Secure v → Secure (happens v event).state
 unfolding happens
 secure_happens v (Arrive line bytes) sec = secure_arrived v line bytes sec
-secure_happens v (Turn slot turn s) sec = secure_turn slot turn v s sec
+secure_happens v (Turn at) sec = secure_turn at v sec
 secure_happens v EndSlot sec = secure_slot_ended v sec
-
--- the fixed part stays
-fixed_happens : (v : State) (event : Event) → (happens v event).state.fixed ≡ v.fixed
-unfolding happens arrived slot_ended
-fixed_happens v (Arrive line bytes) = refl
-fixed_happens v (Turn slot turn s) = (turn_of-Bounded slot turn v s).fixed
-fixed_happens v EndSlot = refl
 
 -- the law
 pub law_secure : (v : State) (event : Event) → Secure v → KeepsSecure v event
-law_secure v event sec = record { secure = secure_happens v event sec; fixed = fixed_happens v event }
+law_secure v event sec = record { secure = secure_happens v event sec; fixed = happens-fixed v event }
 
 -- a list of events keeps a secure state secure
 pub law_reached : LawReached

@@ -1,5 +1,5 @@
 -- What keeps a secure state secure: objects with the same facts but for their rows, whose contents fit; current accesses that
--- rows, levels and names allow; and as many processes, whose fault entries are even.
+-- rows, levels and names allow; and as many processes, which are sound.
 use Rattle.std.proofs.Common.{◌≡◌, ℕ, ◌%◌, ◌<◌, Bool, true, ◌&&◌, List, [], ◌∷◌, length, Some, refl, sym, ap, ◌∙◌, subst, ◌==◌, inl, inr}
 use Rattle.std.specs.Prelude.{option_map}
 use Rattle.std.specs.FinMap as map
@@ -9,13 +9,14 @@ use Rattle.bk_level.specs.Levels.{dominates}
 use Rattle.bk_path.specs.Paths.{Path, path_cmp}
 use Rattle.bk_object.specs.Modes.{Mode, has}
 use Rattle.bk_object.specs.Kinds.{kind_modes, is_directory}
-use Rattle.bk_object.specs.Rows.{in_row}
+use Rattle.bk_object.specs.Rows.{in_row, most_subjects}
 use Rattle.bk_object.specs.declared.Modes.{Modes}
 use Rattle.bk_object.specs.declared.Facts.{Facts}
 use Rattle.bk_process.specs.declared.process.Process.{Process}
 use Rattle.bk_quota.specs.Charges.{passes}
 use Rattle.bk_state.specs.State.{State, Object, triple_cmp, facts_at, holds, current_level, level_of}
-use Rattle.bk_state.specs.Secure.{Secure, FitsKind, HasCell, is_allowed}
+use Rattle.bk_state.specs.Secure.{Secure, FitsKind, HasCell, is_whole}
+use Rattle.bk_state.specs.Allowed.{is_allowed}
 use Rattle.bk_laws.proofs.Changes.{with_objects, moved}
 use Rattle.bk_laws.proofs.Shapes.{shape, shape_at, shape_back, passes-shape, is_upgraded-same, quota_at-same, used-same}
 
@@ -27,9 +28,14 @@ may_hold v s mode facts = has (in_row facts.row s) mode && is_allowed v s facts 
 abbrev pub is_above : State → (s : ℕ) → (directory : Facts) → Bool
 is_above v s directory = dominates (current_level v s) (level_of v directory)
 
--- what a row has for a subject is a mode of the kind, and the subject is there
+-- a row has all its places, and what it has for a subject is a mode of the kind, and the subject is there
 abbrev pub RowFits : State → Facts → (row : List Modes) → Type 0
-RowFits v facts row = (s : ℕ) (mode : Mode) → has (in_row row s) mode ≡ true → (has (kind_modes facts.kind) mode ≡ true) × (s < length v.fixed.subjects)
+RowFits v facts row = (length row ≡ most_subjects) ×
+    ((s : ℕ) (mode : Mode) → has (in_row row s) mode ≡ true → (has (kind_modes facts.kind) mode ≡ true) × (s < length v.fixed.subjects))
+
+-- the rows of a secure state fit
+pub rows_fit : (v : State) → Secure v → (path : Path) (facts : Facts) → facts_at v path ≡ Some facts → RowFits v facts facts.row
+rows_fit v sec path facts is = (sec.shape.rows path facts is, λ s mode h. sec.rows path facts s mode is h)
 
 abbrev pub is_even : ℕ → Bool
 is_even entry = entry % 2 == 0
@@ -37,6 +43,16 @@ is_even entry = entry % 2 == 0
 -- each fault entry of the process is even
 abbrev pub has_even_entries : Process → Bool
 has_even_entries process = list_all is_even process.entries
+
+-- what a secure state says of one process, and of all
+abbrev pub IsSound : Process → Type 0
+IsSound process = (has_even_entries process ≡ true) × (is_whole process ≡ true)
+
+abbrev pub AreSound : List Process → Type 0
+AreSound processes = (list_all has_even_entries processes ≡ true) × (list_all is_whole processes ≡ true)
+
+pub are_sound : (v : State) → Secure v → AreSound v.processes
+are_sound v sec = (sec.entries, sec.shape.processes)
 
 module _ (v : State) (objects : map.FinMap path_cmp Object) (access : set.FinSet triple_cmp) (processes : List Process)
     (sec : Secure v) (same : (q : Path) → shape_at (moved v objects access processes) q ≡ shape_at v q) where
@@ -67,9 +83,11 @@ module _ (v : State) (objects : map.FinMap path_cmp Object) (access : set.FinSet
       ((q : Path) (facts : Facts) → facts_at w q ≡ Some facts → RowFits v facts facts.row) →
       ((s : ℕ) (q : Path) (mode : Mode) → holds w s q mode ≡ true → passes (may_hold v s mode) (facts_at w q) ≡ true) →
       ((s entry : ℕ) (q : Path) (mode : Mode) → holds w s (entry ∷ q) mode ≡ true → passes (is_above v s) (facts_at v q) ≡ true) →
-      length processes ≡ length v.fixed.subjects → list_all has_even_entries processes ≡ true → Secure w
-  secure_frame kinds rows allowed named many even = record {
+      length processes ≡ length v.fixed.subjects → AreSound processes → Secure w
+  secure_frame kinds rows allowed named many sound = record {
     processes = many;
+    shape = record { rows = λ path facts is. (rows path facts is).0; processes = sound.1 };
+    distinct = sec.distinct;
     root = as_before (λ f. is_directory f.kind) [] (λ f. refl) sec.root;
     parents = λ entry path facts is. parents entry path facts (shape_back _ _ facts (same (entry ∷ path)) is);
     clearances = sec.clearances;
@@ -82,10 +100,10 @@ module _ (v : State) (objects : map.FinMap path_cmp Object) (access : set.FinSet
     limits = λ path cell. rw (quota_at-same w v same path) (sec.limits path (has_cell path cell));
     no_limits = λ path none. quota_at-same w v same path ∙ sec.no_limits path (λ cell. none (had_cell path cell));
     quotas = λ path cell. rw (used-same w v same path, quota_at-same w v same path) (sec.quotas path (has_cell path cell));
-    rows = λ path facts s mode is h. rows path facts is s mode h;
+    rows = λ path facts s mode is h. (rows path facts is).1 s mode h;
     access = allowed;
     naming = λ s entry path mode h. as_before (is_above v s) path (λ f. refl) (named s entry path mode h);
-    entries = even;
+    entries = sound.0;
   }
 
 -- other objects alone
@@ -94,20 +112,20 @@ pub secure_reshaped : (v : State) (objects : map.FinMap path_cmp Object) → Sec
     ((q : Path) (facts : Facts) → facts_at (with_objects v objects) q ≡ Some facts → RowFits v facts facts.row) →
     ((s : ℕ) (q : Path) (mode : Mode) → holds v s q mode ≡ true → passes (may_hold v s mode) (facts_at (with_objects v objects) q) ≡ true) →
     Secure (with_objects v objects)
-secure_reshaped v objects sec same kinds rows allowed = secure_frame v objects v.access v.processes sec same kinds rows allowed sec.naming sec.processes sec.entries
+secure_reshaped v objects sec same kinds rows allowed = secure_frame v objects v.access v.processes sec same kinds rows allowed sec.naming sec.processes (are_sound v sec)
 
 -- other accesses and other processes
 pub secure_beside : (v : State) (access : set.FinSet triple_cmp) (processes : List Process) → Secure v →
     ((s : ℕ) (q : Path) (mode : Mode) → set.contains access (s, q, mode) ≡ true → passes (may_hold v s mode) (facts_at v q) ≡ true) →
     ((s entry : ℕ) (q : Path) (mode : Mode) → set.contains access (s, entry ∷ q, mode) ≡ true → passes (is_above v s) (facts_at v q) ≡ true) →
-    length processes ≡ length v.fixed.subjects → list_all has_even_entries processes ≡ true →
+    length processes ≡ length v.fixed.subjects → AreSound processes →
     Secure (record v { access = access; processes = processes })
-secure_beside v access processes sec = secure_frame v v.objects access processes sec (λ q. refl) sec.kinds (λ q facts is s mode h. sec.rows q facts s mode is h)
+secure_beside v access processes sec = secure_frame v v.objects access processes sec (λ q. refl) sec.kinds (rows_fit v sec)
 
 -- other objects whose facts are the same at every path, and whose contents fit their kinds
 pub secure_same_facts : (v : State) (objects : map.FinMap path_cmp Object) → Secure v →
     ((q : Path) → facts_at (with_objects v objects) q ≡ facts_at v q) →
     ((q : Path) (o : Object) → map.get objects q ≡ Some o → FitsKind v.fixed o.facts.kind o.facts o.contents) → Secure (with_objects v objects)
 secure_same_facts v objects sec same kinds = secure_reshaped v objects sec (λ q. ap (option_map shape) (same q)) kinds
-    (λ q facts is s mode h. sec.rows q facts s mode (sym (same q) ∙ is) h)
+    (λ q facts is. rows_fit v sec q facts (sym (same q) ∙ is))
     (λ s q mode h. subst (λ a. passes (may_hold v s mode) a ≡ true) (sym (same q)) (sec.access s q mode h))

@@ -1,20 +1,20 @@
 -- To delete a group keeps a secure state secure.
-use Rattle.std.proofs.Common.{◌≡◌, ℕ, ◌≤◌, Bool, true, false, ◌||◌, not, List, [], ◌∷◌, Option, Some, None, refl, sym, ap, ◌∙◌, subst, arith, unwrap_or, le_of_eq, le_trans, inl, inr}
+use Rattle.std.proofs.Common.{◌≡◌, ℕ, ◌≤◌, Bool, true, false, ◌||◌, not, [], ◌∷◌, Option, Some, None, refl, sym, ap, ◌∙◌, subst, arith}
+use Rattle.std.proofs.Common.{unwrap_or, le_of_eq, le_trans, inl, inr}
 use Rattle.std.specs.Prelude.{option_map, if◌then◌else◌}
 use Rattle.bk_level.proofs.LevelOrder.{and_first, and_second}
 use Rattle.bk_path.specs.Paths.{Path, is_same, is_inferior, is_root}
+use Rattle.bk_object.specs.Limits.{largest_quota}
 use Rattle.bk_object.specs.Modes.{Mode}
 use Rattle.bk_object.specs.declared.Facts.{Facts}
 use Rattle.bk_quota.specs.Charges.{passes, charge_of}
-use Rattle.bk_state.specs.declared.rule.Rule.TheVariants.{DeleteGroup}
-use Rattle.bk_state.specs.declared.call.Call.TheVariants.{ByRule}
 use Rattle.bk_state.specs.State.{State, Object, find, facts_at, holds}
 use Rattle.bk_state.specs.Quota.{is_upgraded, governing, level_number, quota_at, used}
 use Rattle.bk_state.specs.Secure.{Secure, FitsKind, HasCell}
-use Rattle.bk_state.specs.Changes.{changed, without_group}
-use Rattle.bk_state.specs.Calls.{path_in, request_in, call_refusal}
-use Rattle.bk_laws.proofs.Tests.{passed, passes_there}
+use Rattle.bk_state.specs.TreeCalls.{without_group, delete_group}
+use Rattle.bk_state.specs.Request.{Request}
 use Rattle.bk_laws.proofs.Changes.{find-without_group, facts_at-without_group, holds-retain}
+use Rattle.bk_laws.proofs.Tests.{Passes, passed, passes_there}
 use Rattle.bk_laws.proofs.Shapes.{is_upgraded-by, level_number-by, quota_at-by, share_at, used_le}
 
 -- what stands outside a group has its parent outside
@@ -105,8 +105,8 @@ module _ (v : State) (path : Path) where
     cell_kept q out (inl root) = inl root
     cell_kept q out (inr up) = inr (is_upgraded-group q out ∙ up)
 
-    limits : (q : Path) → (is_inferior q path ≡ false) × HasCell v q → (1 ≤ quota_at w q) × (quota_at w q ≤ 3904)
-    limits q (out, cell) = subst (λ n. (1 ≤ n) × (n ≤ 3904)) (sym (quota_at-group q out)) (sec.limits q cell)
+    limits : (q : Path) → (is_inferior q path ≡ false) × HasCell v q → (1 ≤ quota_at w q) × (quota_at w q ≤ largest_quota)
+    limits q (out, cell) = subst (λ n. (1 ≤ n) × (n ≤ largest_quota)) (sym (quota_at-group q out)) (sec.limits q cell)
 
     no_limits : (q : Path) (b : Bool) → is_inferior q path ≡ b → ¬ HasCell w q → quota_at w q ≡ 0
     no_limits q true in_group none = quota_at-gone q in_group
@@ -123,6 +123,8 @@ module _ (v : State) (path : Path) where
     pub secure_without_group : Secure w
     secure_without_group = record {
       processes = sec.processes;
+      shape = record { rows = λ q f is. sec.shape.rows q f (group_left q f is).1; processes = sec.shape.processes };
+      distinct = sec.distinct;
       root = passes-kept _ [] (root_outside path below) sec.root;
       parents = λ entry q f is. let (out, was) = group_left (entry ∷ q) f is in passes-kept _ q (outside entry q path out) (sec.parents entry q f was);
       clearances = sec.clearances;
@@ -138,8 +140,7 @@ module _ (v : State) (path : Path) where
       entries = sec.entries;
     }
 
-pub secure_delete_group : (v : State) (s : ℕ) (general : List ℕ) → Secure v → call_refusal v s (ByRule DeleteGroup) general ≡ None → Secure (changed v s DeleteGroup (request_in general))
-unfolding changed
-secure_delete_group v s general sec none =
-    let (path, (named, (there, (root, (write, end))))) = passed v s (ByRule DeleteGroup) general none in
-    secure_without_group v (path_in general) sec root
+pub secure_delete_group : (v : State) (s : ℕ) (request : Request) → Secure v → Passes v s delete_group request → Secure (delete_group.changes v s request)
+secure_delete_group v s request sec none =
+    let (path, (named, (there, (root, (write, end))))) = passed v s delete_group request none in
+    secure_without_group v request.path sec root

@@ -1,17 +1,22 @@
--- Other processes, as many, whose fault entries are even, keep a secure state secure.
-use Rattle.std.proofs.Common.{◌≡◌, ℕ, zero, suc, ◌<◌, Bool, true, List, [], ◌∷◌, length, map, Some, refl, ap, ◌∙◌, subst, length-set, unwrap_or}
+-- Other processes, as many, which are sound, keep a secure state secure; and what leaves a process sound.
+use Rattle.std.proofs.Common.{◌≡◌, ℕ, zero, suc, ◌<◌, Bool, true, List, [], ◌∷◌, length, map, Some, refl, ap, ◌∙◌, subst, length-set, unwrap_or, ◌&&◌, ◌==◌}
 use Rattle.std.specs.Prelude.{slice_get, slice_set}
 use Rattle.std.specs.List.{list_all}
 use Rattle.std.proofs.lemmas.List.{length-map}
 use Rattle.std.proofs.lemmas.List.Folds.{list_all-map}
 use Rattle.std.proofs.lemmas.Option.{slice_get_within}
 use Rattle.bk_level.proofs.LevelOrder.{and_first, and_second, and_both}
+use Rattle.bk_space.specs.AddrSpace.{AddrSpace}
+use Rattle.bk_exec.specs.Exec.{exec}
+use Rattle.bk_exec.proofs.CountedRegisters.{exec_alike}
+use Rattle.bk_process.specs.NewProcess.{windows_of_process, entries_of_process, general_registers}
 use Rattle.bk_process.specs.declared.process.Process.{Process}
 use Rattle.bk_state.specs.State.{State, process_of}
-use Rattle.bk_state.specs.Secure.{Secure}
-use Rattle.bk_system.specs.Slot.{with_resumed, slot_ended}
+use Rattle.bk_state.specs.Secure.{Secure, is_whole}
+use Rattle.bk_state.specs.Answers.{taking_from, with_values}
+use Rattle.bk_system.specs.Event.{with_resumed, slot_ended}
 use Rattle.bk_system.specs.Turn.{with_process}
-use Rattle.bk_laws.proofs.SecureFrame.{has_even_entries, secure_beside}
+use Rattle.bk_laws.proofs.SecureFrame.{has_even_entries, IsSound, AreSound, secure_beside}
 
 -- ---- what holds of every element
 
@@ -28,28 +33,49 @@ module _ {X : Type 0} (test : X → Bool) where
 
 -- ---- the processes of a secure state
 
--- other processes, as many, with even fault entries
-pub secure_processes : (v : State) (processes : List Process) → Secure v → length processes ≡ length v.fixed.subjects →
-    list_all has_even_entries processes ≡ true → Secure (record v { processes = processes })
-secure_processes v processes sec many even = secure_beside v v.access processes sec sec.access sec.naming many even
+-- other processes, as many, which are sound
+pub secure_processes : (v : State) (processes : List Process) → Secure v → length processes ≡ length v.fixed.subjects → AreSound processes →
+    Secure (record v { processes = processes })
+secure_processes v processes sec many sound = secure_beside v v.access processes sec sec.access sec.naming many sound
 
 -- one process becomes another
-pub secure_with_process : (v : State) (s : ℕ) (p : Process) → Secure v → has_even_entries p ≡ true → Secure (with_process v s p)
-secure_with_process v s p sec even =
-    secure_processes v (slice_set v.processes s p) sec (length-set v.processes s p ∙ sec.processes) (all_set has_even_entries v.processes s p sec.entries even)
+pub secure_with_process : (v : State) (s : ℕ) (p : Process) → Secure v → IsSound p → Secure (with_process v s p)
+secure_with_process v s p sec sound =
+    secure_processes v (slice_set v.processes s p) sec (length-set v.processes s p ∙ sec.processes)
+    (all_set has_even_entries v.processes s p sec.entries sound.0, all_set is_whole v.processes s p sec.shape.processes sound.1)
 
 -- each paused process runs again
 pub secure_slot_ended : (v : State) → Secure v → Secure (slot_ended v)
 unfolding slot_ended
-secure_slot_ended v sec = secure_processes v (map with_resumed v.processes) sec
-    (length-map v.processes with_resumed ∙ sec.processes) (list_all-map has_even_entries with_resumed v.processes ∙ sec.entries)
+secure_slot_ended v sec = secure_processes v (map with_resumed v.processes) sec (length-map v.processes with_resumed ∙ sec.processes)
+    (list_all-map has_even_entries with_resumed v.processes ∙ sec.entries, list_all-map is_whole with_resumed v.processes ∙ sec.shape.processes)
 
 -- ---- a process that is there
 
--- its fault entries are even
-pub process_even : (v : State) (s : ℕ) (p : Process) → Secure v → process_of v s ≡ Some p → has_even_entries p ≡ true
-process_even v s p sec there = all_get has_even_entries v.processes s p sec.entries there
+-- it is sound
+pub process_sound : (v : State) (s : ℕ) (p : Process) → Secure v → process_of v s ≡ Some p → IsSound p
+process_sound v s p sec there = (all_get has_even_entries v.processes s p sec.entries there, all_get is_whole v.processes s p sec.shape.processes there)
 
 -- it is a subject's
 pub process_subject : (v : State) (s : ℕ) (p : Process) → Secure v → process_of v s ≡ Some p → s < length v.fixed.subjects
 process_subject v s p sec there = subst (λ n. s < n) sec.processes (slice_get_within v.processes s p there)
+
+-- ---- a process that is changed
+
+-- it stays whole where no list of it becomes longer or shorter
+pub still_whole : (p q : Process) → length q.windows ≡ length p.windows → length q.entries ≡ length p.entries →
+    length q.registers.general ≡ length p.registers.general → is_whole p ≡ true → is_whole q ≡ true
+still_whole p q windows entries general whole =
+    (λ i. windows i == windows_of_process && entries i == entries_of_process && general i == general_registers) ∙ whole
+
+length-taking_from : (n : ℕ) (values general : List ℕ) → length (taking_from n values general) ≡ length general
+length-taking_from n [] general = refl
+length-taking_from n (value ∷ values) general = length-taking_from (suc n) values (slice_set general n value) ∙ length-set general n value
+
+-- the values of a call that a process finds in its registers leave it sound
+pub sound_with_values : (values : List ℕ) (p : Process) → IsSound p → IsSound (with_values values p)
+sound_with_values values p sound = (sound.0, still_whole p (with_values values p) refl refl (length-taking_from 0 values p.registers.general) sound.1)
+
+-- and so do the registers that an instruction leaves
+pub sound_executed : (pages : AddrSpace) (p : Process) → IsSound p → IsSound (record p { registers = (exec pages p.registers).regs })
+sound_executed pages p sound = (sound.0, still_whole p (record p { registers = (exec pages p.registers).regs }) refl refl (exec_alike pages p.registers) sound.1)

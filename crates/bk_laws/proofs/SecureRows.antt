@@ -1,5 +1,6 @@
 -- Give and rescind keep a secure state secure.
-use Rattle.std.proofs.Common.{◌≡◌, ℕ, ◌<◌, Bool, true, false, ◌&&◌, not, List, length, Option, Some, None, refl, sym, ap, ◌∙◌, subst, ◌==◌, arith, nat_le, inl, inr}
+use Rattle.std.proofs.Common.{◌≡◌, ℕ, ◌<◌, Bool, true, false, ◌&&◌, not, List, length, Option, Some, None, refl, sym, ap, ◌∙◌, subst, ◌==◌, arith}
+use Rattle.std.proofs.Common.{nat_le, inl, inr, length-set}
 use Rattle.std.proofs.lemmas.Bool.Decides.{nat_tests}
 use Rattle.std.specs.Prelude.{option_map, slice_index, if◌then◌else◌}
 use Rattle.std.specs.FinMap as map
@@ -14,18 +15,16 @@ use Rattle.bk_object.specs.declared.Kind.TheVariants.{Directory, Segment, Mailbo
 use Rattle.bk_object.specs.declared.Modes.{Modes}
 use Rattle.bk_object.specs.declared.Facts.{Facts}
 use Rattle.bk_quota.specs.Charges.{passes}
-use Rattle.bk_state.specs.declared.rule.Rule.TheVariants.{Give, Rescind}
-use Rattle.bk_state.specs.declared.call.Call.TheVariants.{ByRule}
 use Rattle.bk_state.specs.State.{State, Fixed, Object, Contents, Words, Messages, Typed, find, facts_at, holds}
 use Rattle.bk_state.specs.Secure.{Secure, FitsKind}
-use Rattle.bk_state.specs.Checks.{Request}
-use Rattle.bk_state.specs.Changes.{changed, changed_by, with_row, without_triples}
-use Rattle.bk_state.specs.Calls.{path_in, request_in, is_outside, call_refusal}
-use Rattle.bk_laws.proofs.Tests.{passed, not_false, or_second, some_same}
+use Rattle.bk_state.specs.Request.{Request, request_in, path_in, is_outside}
+use Rattle.bk_state.specs.RowCalls.{changed_by, with_row, give, rescind}
+use Rattle.bk_state.specs.AccessCalls.{without_triples}
 use Rattle.bk_laws.proofs.Changes.{facts_in, with_objects, find-insert, facts_at-insert, holds-retain}
+use Rattle.bk_laws.proofs.Tests.{Passes, passed, not_false, or_second, some_same}
 use Rattle.bk_laws.proofs.Rows.{within, in_row-given, given_keeps, in_row-rescinded, rescinded_keeps}
 use Rattle.bk_laws.proofs.Shapes.{shape, shape_at}
-use Rattle.bk_laws.proofs.SecureFrame.{may_hold, RowFits, secure_reshaped}
+use Rattle.bk_laws.proofs.SecureFrame.{may_hold, RowFits, rows_fit, secure_reshaped}
 use Rattle.bk_laws.proofs.SecureAccess.{secure_retain}
 
 -- the row plays no part in what fits a kind
@@ -69,7 +68,7 @@ module _ (v : State) (path : Path) (f : List Modes → List Modes) (o : Object) 
 
       rows : (q : Path) (g : Facts) (b : Bool) → is_same q path ≡ b → (if b then Some (with_row f o).facts else facts_at v q) ≡ Some g → RowFits v g g.row
       rows q g true same is = subst (λ y. RowFits v y y.row) (some_same is) fits
-      rows q g false same is = λ s mode h. sec.rows q g s mode is h
+      rows q g false same is = rows_fit v sec q g is
 
       access : (s : ℕ) (q : Path) (mode : Mode) → holds v s q mode ≡ true → (b : Bool) → is_same q path ≡ b → passes (may_hold v s mode) (if b then Some (with_row f o).facts else facts_at v q) ≡ true
       access s q mode h true same =
@@ -82,23 +81,27 @@ module _ (v : State) (path : Path) (f : List Modes → List Modes) (o : Object) 
 secure_given : (v : State) (path : Path) (s : ℕ) (modes : Modes) (a : Option Object) → find v path ≡ a → Secure v → s < length v.fixed.subjects →
     passes (λ facts. is_within modes (kind_modes facts.kind)) (facts_at v path) ≡ true → Secure (changed_by v path (with_row (given s modes)) a)
 secure_given v path s modes None is sec few fits = sec
-secure_given v path s modes (Some o) is sec few fits = secure_with_row v path (given s modes) o is sec
-    (λ j mode h. elim (in_row-given s modes o.facts.row j mode h) [
-      | inl old ↦ sec.rows path o.facts j mode (ap facts_in is) old
-      | inr (at, new) ↦ (within modes (kind_modes o.facts.kind) mode all new, rw at few)
-    ])
+secure_given v path s modes (Some o) is sec few fits = secure_with_row v path (given s modes) o is sec (
+  length-set o.facts.row s _ ∙ old.0,
+  λ j mode h. elim (in_row-given s modes o.facts.row j mode h) [
+    | inl had ↦ old.1 j mode had
+    | inr (at, new) ↦ (within modes (kind_modes o.facts.kind) mode all new, rw at few)
+  ],
+)
     (λ j mode h. given_keeps s modes o.facts.row j mode)
   where
+    old : RowFits v o.facts o.facts.row
+    old = rows_fit v sec path o.facts (ap facts_in is)
+
     all : is_within modes (kind_modes o.facts.kind) ≡ true
     all = subst (λ b. passes (λ facts. is_within modes (kind_modes facts.kind)) (facts_in b) ≡ true) is fits
 
 below : (n m : ℕ) → nat_le n m ≡ false → m < n
 below n m few = grind (arith, nat_tests, few)
 
-pub secure_give : (v : State) (s : ℕ) (general : List ℕ) → Secure v → call_refusal v s (ByRule Give) general ≡ None → Secure (changed v s Give (request_in general))
-unfolding changed
+pub secure_give : (v : State) (s : ℕ) (general : List ℕ) → Secure v → Passes v s give (request_in general) → Secure (give.changes v s (request_in general))
 secure_give v s general sec none =
-    let (path, (bad, (named, (there, (kind, (root, (write, end))))))) = passed v s (ByRule Give) general none in
+    let (path, (bad, (named, (there, (kind, (root, (write, end))))))) = passed v s give (request_in general) none in
     secure_given v (path_in general) (request_in general).subject (request_in general).modes (find v (path_in general)) refl sec
     (below _ _ (or_second (is_outside 1 15 (slice_index general 3)) (nat_le (length v.fixed.subjects) (slice_index general 4)) bad)) (not_false _ kind)
 
@@ -108,9 +111,12 @@ secure_rescinded : (v : State) (path : Path) (s : ℕ) (modes : Modes) (a : Opti
     Secure (changed_by (without_triples v s path modes) path (with_row (rescinded s modes)) a)
 secure_rescinded v path s modes None is sec = secure_retain v _ sec
 secure_rescinded v path s modes (Some o) is sec = secure_with_row (without_triples v s path modes) path (rescinded s modes) o is (secure_retain v _ sec)
-    (λ j mode h. sec.rows path o.facts j mode (ap facts_in is) (in_row-rescinded s modes o.facts.row j mode h))
-    (λ j mode h old. rescinded_keeps s modes o.facts.row j mode old (stays j mode h))
+    (length-set o.facts.row s _ ∙ old.0, λ j mode h. old.1 j mode (in_row-rescinded s modes o.facts.row j mode h))
+    (λ j mode h had. rescinded_keeps s modes o.facts.row j mode had (stays j mode h))
   where
+    old : RowFits v o.facts o.facts.row
+    old = rows_fit v sec path o.facts (ap facts_in is)
+
     stays : (j : ℕ) (mode : Mode) → holds (without_triples v s path modes) j path mode ≡ true → not ((j == s) && has modes mode) ≡ true
     stays j mode h =
         let both = sym (holds-retain v (λ t. not ((t.0 == s) && is_same t.1 path && has modes t.2)) j path mode) ∙ h in
@@ -122,6 +128,5 @@ secure_rescinded v path s modes (Some o) is sec = secure_with_row (without_tripl
         drop_middle true false c e h = cc
         drop_middle false b c e h = refl
 
-pub secure_rescind : (v : State) (s : ℕ) (request : Request) → Secure v → Secure (changed v s Rescind request)
-unfolding changed
+pub secure_rescind : (v : State) (s : ℕ) (request : Request) → Secure v → Secure (rescind.changes v s request)
 secure_rescind v s request sec = secure_rescinded v request.path request.subject request.modes (find v request.path) refl sec

@@ -1,45 +1,32 @@
 -- What a subject under a level holds and names lies under the level, and is the same in two states in which the same lies
 -- under it.
-use Rattle.std.proofs.Common.{◌≡◌, ℕ, Bool, true, false, ◌&&◌, ◌||◌, List, [], ◌∷◌, refl, ap, ◌∙◌}
+use Rattle.std.proofs.Common.{◌≡◌, ◌≢◌, ℕ, Bool, true, false, ◌&&◌, ◌||◌, List, [], ◌∷◌, refl, ap, ◌∙◌}
 use Rattle.std.specs.List.{list_any, AllByRecursion}
-use Rattle.bk_level.specs.Levels.{Level, dominates, is_same_level}
-use Rattle.bk_level.proofs.LevelOrder.{and_second, dominates-trans}
-use Rattle.bk_level.proofs.TableLemmas.{same_level}
+use Rattle.bk_level.specs.Levels.{Level}
+use Rattle.bk_state.specs.Secure.{Secure}
 use Rattle.bk_path.specs.Paths.{Path, parent}
-use Rattle.bk_object.specs.Modes.{Mode, Read, Execute, Write, has}
+use Rattle.bk_object.specs.Modes.{Mode, Read, Execute, Write, Append}
 use Rattle.bk_object.specs.Kinds.{is_directory}
-use Rattle.bk_object.specs.Rows.{in_row}
-use Rattle.bk_object.specs.declared.Facts.{Facts}
 use Rattle.bk_quota.specs.Charges.{passes}
-use Rattle.bk_state.specs.State.{State, facts_at, holds, current_level, greatest_level, level_of}
-use Rattle.bk_state.specs.Secure.{Secure, is_allowed}
+use Rattle.bk_state.specs.State.{State, facts_at, holds}
 use Rattle.bk_state.specs.Named.{is_named}
 use Rattle.bk_state.specs.Low.{is_subject_under, is_under, shows}
-use Rattle.bk_laws.proofs.Tests.{passes_more}
-use Rattle.bk_laws.proofs.SecureAccess.{held_below, named_below}
-use Rattle.bk_laws.proofs.Alike.{Alike, fixed_to, shows_under, current_under, above_under}
+use Rattle.bk_laws.proofs.SecureAccess.{held_under, held_below, named_below}
+use Rattle.bk_laws.proofs.Alike.{Alike, fixed_to, shows_under, above_under}
 
 module _ (level : Level) (v : State) (sec : Secure v) (s : ℕ) (seen : is_subject_under level v s ≡ true) where
-  allowed_under : (path : Path) (mode : Mode) → ((facts : Facts) → is_allowed v s facts mode ≡ true → is_under level v facts ≡ true) →
-      holds v s path mode ≡ true → passes (is_under level v) (facts_at v path) ≡ true
-  allowed_under path mode more held = passes_more _ _ (facts_at v path) (λ facts is a. more facts (and_second (has (in_row facts.row s) mode) _ a)) (sec.access s path mode held)
+  -- what it holds by another mode than append lies under the level, and so what it reads, executes or writes
+  pub other_under : (path : Path) (mode : Mode) → mode ≢ Append → holds v s path mode ≡ true → passes (is_under level v) (facts_at v path) ≡ true
+  other_under path mode other held = above_under level v s seen (facts_at v path) (held_under v s path mode sec other held)
 
-  below : (facts : Facts) → (dominates (greatest_level v s) (level_of v facts) && dominates (current_level v s) (level_of v facts)) ≡ true → is_under level v facts ≡ true
-  below facts allowed = dominates-trans level (current_level v s) (level_of v facts) (current_under level v s seen) (and_second (dominates (greatest_level v s) (level_of v facts)) _ allowed)
-
-  equal : (facts : Facts) → (dominates (greatest_level v s) (level_of v facts) && is_same_level (level_of v facts) (current_level v s)) ≡ true → is_under level v facts ≡ true
-  equal facts allowed =
-      ap (dominates level) (same_level (level_of v facts) (current_level v s) (and_second (dominates (greatest_level v s) (level_of v facts)) _ allowed)) ∙ current_under level v s seen
-
-  -- what it reads, executes or writes lies under the level
   pub read_under : (path : Path) → holds v s path Read ≡ true → passes (is_under level v) (facts_at v path) ≡ true
-  read_under path held = allowed_under path Read below held
+  read_under path held = other_under path Read (λ e. cc) held
 
   pub executed_under : (path : Path) → holds v s path Execute ≡ true → passes (is_under level v) (facts_at v path) ≡ true
-  executed_under path held = allowed_under path Execute below held
+  executed_under path held = other_under path Execute (λ e. cc) held
 
   pub written_under : (path : Path) → holds v s path Write ≡ true → passes (is_under level v) (facts_at v path) ≡ true
-  written_under path held = allowed_under path Write equal held
+  written_under path held = other_under path Write (λ e. cc) held
 
   -- what it holds by one of some modes, where each of them means that the object lies under the level
   pub any_under : (path : Path) (modes : List Mode) → AllByRecursion (λ mode. holds v s path mode ≡ true → passes (is_under level v) (facts_at v path) ≡ true) modes →

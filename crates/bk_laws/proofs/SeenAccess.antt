@@ -10,8 +10,8 @@ use Rattle.bk_path.specs.Paths.{Path}
 use Rattle.bk_object.specs.Modes.{Mode}
 use Rattle.bk_process.specs.declared.process.Process.{Process}
 use Rattle.bk_state.specs.State.{State, Triple, triple_cmp}
-use Rattle.bk_state.specs.Changes.{with_triple}
-use Rattle.bk_system.specs.Slot.{with_resumed}
+use Rattle.bk_state.specs.AccessCalls.{with_triple}
+use Rattle.bk_system.specs.Event.{with_resumed}
 use Rattle.bk_laws.proofs.Changes.{holds-with_triple, holds-retain, slice_get-set}
 use Rattle.bk_laws.proofs.Alike.{Alike, fixed_to}
 

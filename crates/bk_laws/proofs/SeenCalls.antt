@@ -1,7 +1,6 @@
 -- A call of a subject under a level leaves the same under the level, answers the same and sends the same in two states in
 -- which the same lies under it.
 use Rattle.std.proofs.Common.{◌≡◌, ℕ, ◌/◌, Bool, true, false, ◌&&◌, not, List, [], ◌∷◌, Option, Some, None, refl, sym, ap, ◌∙◌, subst, ◌==◌, is_some, inr}
-use Rattle.std.specs.Prelude.{slice_index}
 use Rattle.std.specs.FinMap as map
 use Rattle.std.specs.FinSet as set
 use Rattle.bk_level.specs.Levels.{Level, dominates}
@@ -12,23 +11,26 @@ use Rattle.bk_object.specs.Rows.{given, rescinded}
 use Rattle.bk_object.specs.declared.Facts.{Facts}
 use Rattle.bk_process.specs.declared.process.Process.{Process}
 use Rattle.bk_quota.specs.Charges.{passes}
-use Rattle.bk_state.specs.declared.rule.Rule.{Rule}
 use Rattle.bk_state.specs.declared.rule.Rule.TheVariants.{GetRead, GetAppend, GetExecute, GetWrite, Release, Give, Rescind, Create, DeleteGroup}
 use Rattle.bk_state.specs.declared.call.Call.{Call}
 use Rattle.bk_state.specs.declared.call.Call.TheVariants.{ByRule, Other}
-use Rattle.bk_state.specs.declared.call.Service.{Service}
-use Rattle.bk_state.specs.declared.call.Service.TheVariants.{Window, Unwindow, Deposit, Send, Receive, LineOut, LineIn, Entry, Identify, Quota, Pause, SetFaultEntry, Stop}
+use Rattle.bk_state.specs.declared.call.Service.TheVariants.{Window, Unwindow, Deposit, Send, Receive, LineOut, LineIn, Entry, Identify, Quota, Pause}
+use Rattle.bk_state.specs.declared.call.Service.TheVariants.{SetFaultEntry, Stop}
 use Rattle.bk_state.specs.State.{State, Object, Contents, Triple, triple_cmp, facts_at, level_of}
 use Rattle.bk_state.specs.Quota.{level_number}
 use Rattle.bk_state.specs.Secure.{Secure}
-use Rattle.bk_state.specs.Named.{is_named}
-use Rattle.bk_state.specs.Checks.{Cause, Request, new_facts}
-use Rattle.bk_state.specs.Changes.{changed, changed_at, with_row, new_object}
-use Rattle.bk_state.specs.Calls.{call_of, path_in, request_in, call_refusal}
-use Rattle.bk_state.specs.Answers.{Called, with_contents, with_word, put, without_message, without_byte, serviced, outcome, with_values, with_call, answered_by, called_by, called}
-use Rattle.bk_state.specs.Low.{is_subject_under, is_under}
-use Rattle.bk_laws.proofs.Tests.{not_false, passed}
+use Rattle.bk_state.specs.declared.cause.Cause.{Cause}
+use Rattle.bk_state.specs.Request.{Request, register, request_in, new_facts}
+use Rattle.bk_state.specs.QueueCalls.{message_in}
+use Rattle.bk_state.specs.Calls.{call_of, definition_of, call_refusal}
+use Rattle.bk_state.specs.RowCalls.{changed_at, with_row, give, rescind}
+use Rattle.bk_state.specs.TreeCalls.{create, new_object}
+use Rattle.bk_state.specs.Answers.{Called, outcome, with_values, with_call, answered_by, called_by, called}
+use Rattle.bk_state.specs.Contents.{with_contents, with_word, put, without_message, without_byte}
 use Rattle.bk_laws.proofs.Changes.{moved, changed_at-is}
+use Rattle.bk_state.specs.Named.{is_named}
+use Rattle.bk_state.specs.Low.{is_subject_under, is_under}
+use Rattle.bk_laws.proofs.Tests.{Passes, not_refused, not_false, passed}
 use Rattle.bk_laws.proofs.Alike.{Alike, fixed_to}
 use Rattle.bk_laws.proofs.Seen.{named_shows}
 use Rattle.bk_laws.proofs.SeenQuotas.{number_seen}
@@ -87,47 +89,56 @@ module _ (level : Level) (v w0 : State) (sv : Secure v) (sw : Secure (fixed_to v
       (ap (new_facts request) (number_seen level v w0 sv sw alike path h)) refl
       (λ _. inr (λ n. (none_below v sv (entry ∷ path) free n, none_below w sw (entry ∷ path) (ap is_some (sym (alike.facts (entry ∷ path) h)) ∙ free) n)))
 
-  rule-left : (rule : Rule) (general : List ℕ) → call_refusal v s (ByRule rule) general ≡ None → Left (changed v s rule (request_in general)) (changed w s rule (request_in general))
-  unfolding changed
-  rule-left GetRead general none = alike-with_triple level v w0 alike s (path_in general) Read
-  rule-left GetAppend general none = alike-with_triple level v w0 alike s (path_in general) Append
-  rule-left GetExecute general none = alike-with_triple level v w0 alike s (path_in general) Execute
-  rule-left GetWrite general none = alike-with_triple level v w0 alike s (path_in general) Write
-  rule-left Release general none = alike-retain level v w0 alike (λ t. not ((t.0 == s) && is_same t.1 (path_in general) && has (request_in general).modes t.2))
-  rule-left Give general none =
-      let (path, (bad, (named, (there, (kind, (root, (write, end))))))) = passed v s (ByRule Give) general none in
-      left-changed v.access w0.access (path_in general) (with_row (given (request_in general).subject (request_in general).modes))
-      (alike-with_row level v w0 alike (path_in general) (given (request_in general).subject (request_in general).modes) (named_shows level v sv s seen (path_in general) (not_false _ named)))
-  rule-left Rescind general none =
-      let (path, (bad, (named, (there, (kind, (root, (write, end))))))) = passed v s (ByRule Rescind) general none in
-      let keep : Triple → Bool = λ t. not ((t.0 == (request_in general).subject) && is_same t.1 (path_in general) && has (request_in general).modes t.2) in
-      left-changed (set.retain v.access keep) (set.retain w0.access keep) (path_in general) (with_row (rescinded (request_in general).subject (request_in general).modes))
+  -- the same objects and accesses as before, or the same change of them in both
+  left_itself : Left v w
+  left_itself = alike
+
+  give-left : (request : Request) → Passes v s give request → Left (give.changes v s request) (give.changes w s request)
+  give-left request none =
+      let (path, (bad, (named, (there, (kind, (root, (write, end))))))) = passed v s give request none in
+      left-changed v.access w0.access request.path (with_row (given request.subject request.modes))
+      (alike-with_row level v w0 alike request.path (given request.subject request.modes) (named_shows level v sv s seen request.path (not_false _ named)))
+
+  rescind-left : (request : Request) → Passes v s rescind request → Left (rescind.changes v s request) (rescind.changes w s request)
+  rescind-left request none =
+      let (path, (bad, (named, (there, (kind, (root, (write, end))))))) = passed v s rescind request none in
+      let keep : Triple → Bool = λ t. not ((t.0 == request.subject) && is_same t.1 request.path && has request.modes t.2) in
+      left-changed (set.retain v.access keep) (set.retain w0.access keep) request.path (with_row (rescinded request.subject request.modes))
       (alike-with_row level (record v { access = set.retain v.access keep }) (record w0 { access = set.retain w0.access keep }) (alike-retain level v w0 alike keep)
-      (path_in general) (rescinded (request_in general).subject (request_in general).modes) (named_shows level v sv s seen (path_in general) (not_false _ named)))
-  rule-left Create general none =
-      let (path, (bad, (named, (root, (write, (falls, (free, (quota, end)))))))) = passed v s (ByRule Create) general none in
-      left-created (request_in general) (path_in general) root (not_false _ named) free
-  rule-left DeleteGroup general none = alike-without_group level v w0 alike (path_in general)
+      request.path (rescinded request.subject request.modes) (named_shows level v sv s seen request.path (not_false _ named)))
 
-  service-left : (service : Service) (general : List ℕ) → Left (serviced v service general) (serviced w service general)
-  service-left Window general = alike
-  service-left Unwindow general = alike
-  service-left Deposit general = left-contents (path_in general) (with_word (slice_index general 3 / 2) (slice_index general 4))
-  service-left Send general = left-contents (path_in general) (put (slice_index general 0 ∷ slice_index general 3 ∷ slice_index general 4 ∷ slice_index general 5 ∷ []))
-  service-left Receive general = left-contents (path_in general) without_message
-  service-left LineOut general = alike
-  service-left LineIn general = left-contents (path_in general) without_byte
-  service-left Entry general = alike
-  service-left Identify general = alike
-  service-left Quota general = alike
-  service-left Pause general = alike
-  service-left SetFaultEntry general = alike
-  service-left Stop general = alike
+  create-left : (request : Request) → Passes v s create request → Left (create.changes v s request) (create.changes w s request)
+  create-left request none =
+      let (path, (bad, (named, (root, (write, (falls, (free, (quota, end)))))))) = passed v s create request none in
+      left-created request request.path root (not_false _ named) free
 
-  outcome-left : (call : Call) (general : List ℕ) → call_refusal v s call general ≡ None → Left (outcome v s call general) (outcome w s call general)
+  each_left : (call : Call) (request : Request) → Passes v s (definition_of call) request → Left ((definition_of call).changes v s request) ((definition_of call).changes w s request)
+  each_left (ByRule GetRead) request none = alike-with_triple level v w0 alike s request.path Read
+  each_left (ByRule GetAppend) request none = alike-with_triple level v w0 alike s request.path Append
+  each_left (ByRule GetExecute) request none = alike-with_triple level v w0 alike s request.path Execute
+  each_left (ByRule GetWrite) request none = alike-with_triple level v w0 alike s request.path Write
+  each_left (ByRule Release) request none = alike-retain level v w0 alike (λ t. not ((t.0 == s) && is_same t.1 request.path && has request.modes t.2))
+  each_left (ByRule Give) request none = give-left request none
+  each_left (ByRule Rescind) request none = rescind-left request none
+  each_left (ByRule Create) request none = create-left request none
+  each_left (ByRule DeleteGroup) request none = alike-without_group level v w0 alike request.path
+  each_left (Other Window) request none = left_itself
+  each_left (Other Unwindow) request none = left_itself
+  each_left (Other Deposit) request none = left-contents request.path (with_word (register request 3 / 2) (register request 4))
+  each_left (Other Send) request none = left-contents request.path (put (message_in request))
+  each_left (Other Receive) request none = left-contents request.path without_message
+  each_left (Other LineOut) request none = left_itself
+  each_left (Other LineIn) request none = left-contents request.path without_byte
+  each_left (Other Entry) request none = left_itself
+  each_left (Other Identify) request none = left_itself
+  each_left (Other Quota) request none = left_itself
+  each_left (Other Pause) request none = left_itself
+  each_left (Other SetFaultEntry) request none = left_itself
+  each_left (Other Stop) request none = left_itself
+
+  outcome-left : (call : Call) (general : List ℕ) → Passes v s (definition_of call) (request_in general) → Left (outcome v s call general) (outcome w s call general)
   unfolding outcome
-  outcome-left (ByRule rule) general none = rule-left rule general none
-  outcome-left (Other service) general none = service-left service general
+  outcome-left call general none = each_left call (request_in general) none
 
   -- ---- the call
 
@@ -139,12 +150,14 @@ module _ (level : Level) (v w0 : State) (sv : Secure v) (sw : Secure (fixed_to v
     pub sent : a.sent ≡ b.sent
 
   answered-seen : (p : Process) (call : Call) (o : Option Cause) → call_refusal v s call p.registers.general ≡ o → CalledAlike (answered_by v s p call o) (answered_by w s p call o)
-  answered-seen p call None none = record {
-    left = outcome-left call p.registers.general none;
-    process = ap (λ values. with_values values (with_call call p.registers.general p)) (reply-seen level v w0 sv sw alike s seen call p.registers.general none);
-    cause = refl;
-    sent = sent-seen level v w0 sv sw alike s seen call p.registers.general none;
-  }
+  answered-seen p call None is =
+      let none = not_refused v s call p.registers.general is in
+      record {
+        left = outcome-left call p.registers.general none;
+        process = ap (λ values. with_values values (with_call call p.registers.general p)) (reply-seen level v w0 sv sw alike s seen call p.registers.general none);
+        cause = refl;
+        sent = sent-seen level v w0 sv sw alike s seen call p.registers.general none;
+      }
   answered-seen p call (Some cause) is = record { left = alike; process = refl; cause = refl; sent = refl }
 
   called_by-seen : (p : Process) (o : Option Call) → CalledAlike (called_by v s p o) (called_by w s p o)

@@ -9,12 +9,14 @@ use Rattle.bk_object.specs.declared.Facts.{Facts}
 use Rattle.bk_object.specs.declared.Modes.{Modes}
 use Rattle.bk_quota.specs.Charges.{passes}
 use Rattle.bk_state.specs.State.{State, Object, Contents, find, facts_at}
-use Rattle.bk_state.specs.Changes.{changed_by, changed_at, with_row, without_group}
-use Rattle.bk_state.specs.Answers.{with_contents}
+use Rattle.bk_state.specs.RowCalls.{changed_by, changed_at, with_row}
+use Rattle.bk_state.specs.TreeCalls.{without_group}
+use Rattle.bk_state.specs.Contents.{with_contents}
 use Rattle.bk_state.specs.Secure.{Secure}
+use Rattle.bk_system.specs.Arrivals.{taking, arrived}
+use Rattle.bk_laws.proofs.Changes.{facts_in, holds-retain, find-insert, find-changed_at, facts_at-contents, find-arrived, facts_at-arrived}
+use Rattle.bk_laws.proofs.Changes.{find-without_group, facts_at-without_group}
 use Rattle.bk_state.specs.Low.{is_under, shows, contents_under}
-use Rattle.bk_system.specs.Slot.{taking, arrived}
-use Rattle.bk_laws.proofs.Changes.{facts_in, holds-retain, find-insert, find-changed_at, facts_at-contents, find-arrived, facts_at-arrived, find-without_group, facts_at-without_group}
 use Rattle.bk_laws.proofs.Alike.{Alike, fixed_to, nothing_under, same_object, alike-contents}
 
 module _ (level : Level) (v w : State) (alike : Alike level v (fixed_to v.fixed w)) where

@@ -1,24 +1,29 @@
 -- What a call tells the caller, and the byte that it sends, depend on what lies under the caller's level.
-use Rattle.std.proofs.Common.{◌≡◌, sym, ℕ, ◌+◌, ◌*◌, ◌%◌, true, List, [], ◌∷◌, Option, Some, None, refl, ap, ◌∙◌, subst, unwrap_or}
-use Rattle.std.specs.Prelude.{slice_index}
+use Rattle.std.proofs.Common.{◌≡◌, ℕ, ◌+◌, ◌*◌, ◌%◌, Bool, true, false, ◌&&◌, not, List, [], ◌∷◌, Option, Some, None, refl, ap, ◌∙◌, subst, unwrap_or}
 use Rattle.bk_level.specs.Levels.{Level}
 use Rattle.bk_path.specs.Paths.{Path}
-use Rattle.bk_object.specs.Modes.{modes_where}
-use Rattle.bk_object.specs.Kinds.{is_directory, kind_number}
+use Rattle.bk_object.specs.Modes.{modes_where, no_modes, is_within}
+use Rattle.bk_object.specs.Kinds.{is_directory, kind_modes, kind_number}
 use Rattle.bk_object.specs.Rows.{in_row}
 use Rattle.bk_object.specs.declared.Facts.{Facts}
 use Rattle.bk_quota.specs.Charges.{passes}
 use Rattle.bk_state.specs.declared.call.Call.{Call}
 use Rattle.bk_state.specs.declared.call.Call.TheVariants.{ByRule, Other}
-use Rattle.bk_state.specs.declared.call.Service.{Service}
-use Rattle.bk_state.specs.declared.call.Service.TheVariants.{Window, Unwindow, Deposit, Send, Receive, LineOut, LineIn, Entry, Identify, Quota, Pause, SetFaultEntry, Stop}
+use Rattle.bk_state.specs.declared.call.Service.TheVariants.{Window, Unwindow, Deposit, Send, Receive, LineOut, LineIn, Entry, Identify, Quota}
+use Rattle.bk_state.specs.declared.call.Service.TheVariants.{Pause, SetFaultEntry, Stop}
+use Rattle.bk_state.specs.declared.rule.Rule.TheVariants.{GetRead, GetAppend, GetExecute, GetWrite, Release, Give, Rescind, Create, DeleteGroup}
+use Rattle.bk_state.specs.declared.cause.Cause.TheVariants.{WrongKind}
 use Rattle.bk_state.specs.State.{State, Object, Children, find, facts_at}
 use Rattle.bk_state.specs.Secure.{Secure}
-use Rattle.bk_state.specs.Calls.{path_in, child_at, call_refusal}
-use Rattle.bk_state.specs.Answers.{message_values, byte_values, of_contents, size_of, entry_values, service_values, reply, byte_on, sent_by}
-use Rattle.bk_state.specs.Low.{is_subject_under}
-use Rattle.bk_laws.proofs.Changes.{sends_by, facts_in}
-use Rattle.bk_laws.proofs.Tests.{passes_there, not_false, passed}
+use Rattle.bk_state.specs.Request.{Request, register, request_in}
+use Rattle.bk_state.specs.TellingCalls.{child_at, size_of, entry_values, entry, quota}
+use Rattle.bk_state.specs.KernelCall.{KernelCall, fails}
+use Rattle.bk_state.specs.Calls.{definition_of}
+use Rattle.bk_state.specs.QueueCalls.{message_values, byte_values, of_contents, byte_on, receive, line_out, line_in}
+use Rattle.bk_state.specs.Answers.{reply, sent_by}
+use Rattle.bk_laws.proofs.Changes.{facts_in}
+use Rattle.bk_state.specs.Low.{is_subject_under, is_under}
+use Rattle.bk_laws.proofs.Tests.{Passes, passes_there, not_false, passed}
 use Rattle.bk_laws.proofs.Alike.{Alike, fixed_to, same_object}
 use Rattle.bk_laws.proofs.Seen.{named_shows}
 use Rattle.bk_laws.proofs.SeenQuotas.{quota_seen}
@@ -41,48 +46,104 @@ module _ (level : Level) (v w0 : State) (sv : Secure v) (sw : Secure (fixed_to v
       0 ∷ 0 ∷ (256 * kind_number facts.kind + size_of facts.kind facts.blocks) ∷ facts.level
       ∷ (modes_where (λ mode. alike.holds_same s child mode seen i)).0 ∷ (in_row facts.row s).0 ∷ []
 
-  values-seen : (service : Service) (general : List ℕ) → call_refusal v s (Other service) general ≡ None → service_values v s service general ≡ service_values w s service general
-  values-seen Window general none = refl
-  values-seen Unwindow general none = refl
-  values-seen Deposit general none = refl
-  values-seen Send general none = refl
-  values-seen Receive general none =
-      let (path, (named, (there, (kind, (held, (empty, end)))))) = passed v s (Other Receive) general none in
-      ap (of_contents message_values) (same_object level v w alike sv (path_in general) (held_to_write level v w0 sv sw alike s seen (path_in general) held))
-  values-seen LineOut general none = refl
-  values-seen LineIn general none =
-      let (path, (named, (there, (kind, (held, (empty, end)))))) = passed v s (Other LineIn) general none in
-      ap (of_contents byte_values) (same_object level v w alike sv (path_in general) (held_to_write level v w0 sv sw alike s seen (path_in general) held))
-  values-seen Entry general none =
-      let (path, (bad, (named, (there, (kind, (held, (empty, end))))))) = passed v s (Other Entry) general none in
-      entry-seen (slice_index general 3 ∷ path_in general) (child_at v (path_in general) (slice_index general 3))
-      ∙ ap (entry_values w s (slice_index general 3 ∷ path_in general))
-      (child-seen level v w0 sv sw alike s seen (path_in general) (slice_index general 3) (held_to_read level v w0 sv sw alike s seen (path_in general) held))
-  values-seen Identify general none = refl
-  values-seen Quota general none =
-      let (path, (named, (there, (kind, (held, end))))) = passed v s (Other Quota) general none in
-      let under = held_to_read level v w0 sv sw alike s seen (path_in general) held in
-      let dir : passes (λ facts. is_directory facts.kind) (facts_at v (path_in general)) ≡ true = not_false _ kind in
-      let (facts, is) = passes_there _ _ dir in
-      let (limit, in_use) = quota_seen level v w0 sv sw alike (path_in general) under facts is (subst (λ a. passes (λ x. is_directory x.kind) a ≡ true) is dir) in
-      λ i. 0 ∷ 0 ∷ limit i ∷ in_use i ∷ []
-  values-seen Pause general none = refl
-  values-seen SetFaultEntry general none = refl
-  values-seen Stop general none = refl
+  -- what a call that is answered yes tells its caller, and the byte that it sends, are the same in both
+  record Told (call : KernelCall) (request : Request) : Type 0 where
+    gives : call.gives v s request ≡ call.gives w s request
+    sends : call.sends v request ≡ call.sends w request
+
+  receive-told : (request : Request) → Passes v s receive request → Told receive request
+  receive-told request none = record {
+    gives =
+        let (path, (named, (there, (kind, (held, (empty, end)))))) = passed v s receive request none in
+        ap (of_contents message_values) (same_object level v w alike sv request.path (held_to_write level v w0 sv sw alike s seen request.path held));
+    sends = refl;
+  }
+
+  line_out-told : (request : Request) → Passes v s line_out request → Told line_out request
+  line_out-told request none = record {
+    gives = refl;
+    sends =
+        let (path, (named, (there, (kind, (held, end))))) = passed v s line_out request none in
+        byte_on-facts (register request 3 % 256) (find v request.path) (find w request.path)
+        (alike.facts request.path (named_shows level v sv s seen request.path (not_false _ named)));
+  }
+
+  line_in-told : (request : Request) → Passes v s line_in request → Told line_in request
+  line_in-told request none = record {
+    gives =
+        let (path, (named, (there, (kind, (held, (empty, end)))))) = passed v s line_in request none in
+        ap (of_contents byte_values) (same_object level v w alike sv request.path (held_to_write level v w0 sv sw alike s seen request.path held));
+    sends = refl;
+  }
+
+  entry-told : (request : Request) → Passes v s entry request → Told entry request
+  entry-told request none = record {
+    gives =
+        let (path, (bad, (named, (there, (kind, (held, (empty, end))))))) = passed v s entry request none in
+        entry-seen (register request 3 ∷ request.path) (child_at v request.path (register request 3))
+        ∙ ap (entry_values w s (register request 3 ∷ request.path))
+        (child-seen level v w0 sv sw alike s seen request.path (register request 3) (held_to_read level v w0 sv sw alike s seen request.path held));
+    sends = refl;
+  }
+
+  quota-told : (request : Request) → Passes v s quota request → Told quota request
+  quota-told request none = record {
+    gives =
+        let (path, (named, (there, (kind, (held, end))))) = passed v s quota request none in
+        of_directory (held_to_read level v w0 sv sw alike s seen request.path held) (not_false _ (wrong_kind kind));
+    sends = refl;
+  }
+    where
+      -- of the two parts of the test of its kind, quota asks for the first alone
+      wrong_kind : fails v s quota request WrongKind ≡ false → not (passes (λ facts. is_directory facts.kind) (facts_at v request.path)) ≡ false
+      wrong_kind kind = by (facts_at v request.path) kind
+        where
+          by : (a : Option Facts) → not (passes (λ facts. is_directory facts.kind && is_within no_modes (kind_modes facts.kind)) a) ≡ false →
+              not (passes (λ facts. is_directory facts.kind) a) ≡ false
+          by None h = h
+          by (Some facts) h = first_part (is_directory facts.kind) _ h
+            where
+              first_part : (a b : Bool) → not (a && b) ≡ false → not a ≡ false
+              first_part true b h = refl
+              first_part false b h = h
+
+      of_directory : passes (is_under level v) (facts_at v request.path) ≡ true → passes (λ facts. is_directory facts.kind) (facts_at v request.path) ≡ true →
+          quota.gives v s request ≡ quota.gives w s request
+      of_directory under dir =
+          let (facts, is) = passes_there _ _ dir in
+          let (limit, in_use) = quota_seen level v w0 sv sw alike request.path under facts is (subst (λ a. passes (λ x. is_directory x.kind) a ≡ true) is dir) in
+          λ i. 0 ∷ 0 ∷ limit i ∷ in_use i ∷ []
+
+  each_told : (call : Call) (request : Request) → Passes v s (definition_of call) request → Told (definition_of call) request
+  each_told (Other Receive) request none = receive-told request none
+  each_told (Other LineOut) request none = line_out-told request none
+  each_told (Other LineIn) request none = line_in-told request none
+  each_told (Other Entry) request none = entry-told request none
+  each_told (Other Quota) request none = quota-told request none
+  -- these tell nothing of the state but the caller's number and levels
+  each_told (ByRule GetRead) request none = record { gives = refl; sends = refl }
+  each_told (ByRule GetAppend) request none = record { gives = refl; sends = refl }
+  each_told (ByRule GetExecute) request none = record { gives = refl; sends = refl }
+  each_told (ByRule GetWrite) request none = record { gives = refl; sends = refl }
+  each_told (ByRule Release) request none = record { gives = refl; sends = refl }
+  each_told (ByRule Give) request none = record { gives = refl; sends = refl }
+  each_told (ByRule Rescind) request none = record { gives = refl; sends = refl }
+  each_told (ByRule Create) request none = record { gives = refl; sends = refl }
+  each_told (ByRule DeleteGroup) request none = record { gives = refl; sends = refl }
+  each_told (Other Window) request none = record { gives = refl; sends = refl }
+  each_told (Other Unwindow) request none = record { gives = refl; sends = refl }
+  each_told (Other Deposit) request none = record { gives = refl; sends = refl }
+  each_told (Other Send) request none = record { gives = refl; sends = refl }
+  each_told (Other Identify) request none = record { gives = refl; sends = refl }
+  each_told (Other Pause) request none = record { gives = refl; sends = refl }
+  each_told (Other SetFaultEntry) request none = record { gives = refl; sends = refl }
+  each_told (Other Stop) request none = record { gives = refl; sends = refl }
 
   -- the values of R0 and those after it
-  pub reply-seen : (call : Call) (general : List ℕ) → call_refusal v s call general ≡ None → reply v s call general ≡ reply w s call general
+  pub reply-seen : (call : Call) (general : List ℕ) → Passes v s (definition_of call) (request_in general) → reply v s call general ≡ reply w s call general
   unfolding reply
-  reply-seen (ByRule rule) general none = refl
-  reply-seen (Other service) general none = values-seen service general none
+  reply-seen call general none = (each_told call (request_in general) none).gives
 
   -- the byte that goes out, and its line
-  pub sent-seen : (call : Call) (general : List ℕ) → call_refusal v s call general ≡ None → sent_by v call general ≡ sent_by w call general
-  sent-seen call general = sends_by (λ c. call_refusal v s c general ≡ None → sent_by v c general ≡ sent_by w c general) line_out
-      (λ c silent none. silent v general ∙ sym (silent w general)) call
-    where
-      line_out : call_refusal v s (Other LineOut) general ≡ None → sent_by v (Other LineOut) general ≡ sent_by w (Other LineOut) general
-      line_out none =
-          let (path, (named, (there, (kind, (held, end))))) = passed v s (Other LineOut) general none in
-          byte_on-facts (slice_index general 3 % 256) (find v (path_in general)) (find w (path_in general))
-          (alike.facts (path_in general) (named_shows level v sv s seen (path_in general) (not_false _ named)))
+  pub sent-seen : (call : Call) (general : List ℕ) → Passes v s (definition_of call) (request_in general) → sent_by v call general ≡ sent_by w call general
+  sent-seen call general none = (each_told call (request_in general) none).sends

@@ -17,14 +17,19 @@ use Rattle.bk_process.specs.declared.status.Status9.TheVariants.{Running, Paused
 use Rattle.bk_report.specs.declared.ReportItem.TheVariants as items
 use Rattle.bk_state.specs.State.{State, process_of}
 use Rattle.bk_state.specs.Secure.{Secure}
-use Rattle.bk_state.specs.Changes.{changed_at}
-use Rattle.bk_state.specs.Answers.{Called, with_contents, called}
+use Rattle.bk_state.specs.RowCalls.{changed_at}
+use Rattle.bk_state.specs.Answers.{Called, called}
+use Rattle.bk_state.specs.Contents.{with_contents}
+use Rattle.bk_system.specs.Turn.{stored_in, written_by, written, with_process, byte_item, settled, fault_number, is_user, less, completes}
+use Rattle.bk_system.specs.Turn.{is_reflected, entered, with_pushes, faulted, ended, executed, turn_by, turn_of_process, turn_of}
+use Rattle.bk_state.specs.Causes.{answer_in, cause_in}
+use Rattle.bk_laws.proofs.Changes.{moved, status_push, counter_push, changed_at-is}
+use Rattle.bk_system.proofs.FixedPart.{applied-fixed}
 use Rattle.bk_state.specs.Low.{is_subject_under, low}
+use Rattle.bk_system.specs.declared.at.At.{At}
 use Rattle.bk_system.specs.Space.{space_of}
 use Rattle.bk_system.specs.Step.{Step}
-use Rattle.bk_system.specs.Turn.{stored_in, written_by, written, with_process, byte_item, answer_in, cause_in, settled, fault_number, is_user, less, completes, is_reflected, entered, with_pushes, faulted, ended, took, taken_by, taken, turn_of}
 use Rattle.bk_laws.proofs.Alike.{Alike, fixed_to, low_from_alike, alike_from_low}
-use Rattle.bk_laws.proofs.Changes.{moved, status_push, counter_push, changed_at-is, applied-fixed}
 use Rattle.bk_laws.proofs.SecureContents.{secure_written, secure_applied, secure_with_pushes}
 use Rattle.bk_laws.proofs.SeenSpace.{space-seen}
 use Rattle.bk_laws.proofs.SeenAccess.{alike-with_process}
@@ -88,73 +93,78 @@ module _ (level : Level) where
 
   -- ---- kernel calls
 
-  settled-alike : (v w : State) (sv : Secure v) (sw : Secure (fixed_to v.fixed w)) (alike : Alike level v (fixed_to v.fixed w)) (s : ℕ) (seen : is_subject_under level v s ≡ true)
-      (slot turn : ℕ) (p : Process) (number references : ℕ) (a b : Called) → CalledAlike level v w sv sw alike s seen a b →
-      SameStep level (settled v slot turn s p number references a) (settled (fixed_to v.fixed w) slot turn s p number references b)
-  settled-alike v w sv sw alike s seen slot turn p number references a b same = record {
-    state = low_from_alike level (moved v a.objects a.access (slice_set v.processes s a.process)) _ _ _
-        (alike-with_process level (moved v a.objects a.access v.processes) (moved v b.objects b.access w.processes) same.left s a.process)
-        ∙ ap (λ q. low level (moved v b.objects b.access (slice_set w.processes s q))) same.process;
-    items = λ i. items.Call slot turn s number p.registers.general (answer_in (same.cause i)) (cause_in (same.cause i)) ∷ byte_item slot turn (same.sent i);
+  settled-alike : (v w : State) (sv : Secure v) (sw : Secure (fixed_to v.fixed w)) (alike : Alike level v (fixed_to v.fixed w)) (at : At) (seen : is_subject_under level v at.subject ≡ true)
+      (p : Process) (number references : ℕ) (a b : Called) → CalledAlike level v w sv sw alike at.subject seen a b →
+      SameStep level (settled v at p number references a) (settled (fixed_to v.fixed w) at p number references b)
+  settled-alike v w sv sw alike at seen p number references a b same = record {
+    state = low_from_alike level (moved v a.objects a.access (slice_set v.processes at.subject a.process)) _ _ _
+        (alike-with_process level (moved v a.objects a.access v.processes) (moved v b.objects b.access w.processes) same.left at.subject a.process)
+        ∙ ap (λ q. low level (moved v b.objects b.access (slice_set w.processes at.subject q))) same.process;
+    items = λ i. items.Call at.slot at.turn at.subject number p.registers.general (answer_in (same.cause i)) (cause_in (same.cause i)) ∷ byte_item at (same.sent i);
   }
 
   -- ---- what an instruction ends as
 
-  module _ (v w : State) (sv : Secure v) (sw : Secure w) (same : low level v ≡ low level w) (s : ℕ) (seen : is_subject_under level v s ≡ true) where
-    call-low : (slot turn : ℕ) (p : Process) (number references : ℕ) →
-        SameStep level (settled v slot turn s p number references (called v s p number)) (settled w slot turn s p number references (called w s p number))
-    call-low slot turn p number references = from_alike level v w
-        (λ u. SameStep level (settled v slot turn s p number references (called v s p number)) (settled u slot turn s p number references (called u s p number))) sv sw same
-        (λ secure alike. settled-alike v w sv secure alike s seen slot turn p number references _ _ (called-seen level v w sv secure alike s seen p number))
+  module _ (v w : State) (sv : Secure v) (sw : Secure w) (same : low level v ≡ low level w) (at : At) (seen : is_subject_under level v at.subject ≡ true) where
+    call-low : (p : Process) (number references : ℕ) →
+        SameStep level (settled v at p number references (called v at.subject p number)) (settled w at p number references (called w at.subject p number))
+    call-low p number references = from_alike level v w
+        (λ u. SameStep level (settled v at p number references (called v at.subject p number)) (settled u at p number references (called u at.subject p number))) sv sw same
+        (λ secure alike. settled-alike v w sv secure alike at seen p number references _ _ (called-seen level v w sv secure alike at.subject seen p number))
 
-    spaces-same : (windows : List (Option Path)) → space_of v s windows ≡ space_of w s windows
-    spaces-same windows = from_alike level v w (λ u. space_of v s windows ≡ space_of u s windows) sv sw same (λ secure alike. space-seen level v w sv secure alike s seen windows)
+    spaces-same : (windows : List (Option Path)) → space_of v at.subject windows ≡ space_of w at.subject windows
+    spaces-same windows = from_alike level v w (λ u. space_of v at.subject windows ≡ space_of u at.subject windows) sv sw same (λ secure alike. space-seen level v w sv secure alike at.subject seen windows)
 
-    reflected-same : (p : Process) (entry : ℕ) → is_reflected v s p entry ≡ is_reflected w s p entry
+    reflected-same : (p : Process) (entry : ℕ) → is_reflected v at.subject p entry ≡ is_reflected w at.subject p entry
     reflected-same p entry = λ i.
         is_user p.registers.ps.mode && not (entry == 0)
         && completes (write_at (spaces-same p.windows i) Supervisor D Word (less p.registers.supervisor 2))
         && completes (write_at (spaces-same p.windows i) Supervisor D Word (less p.registers.supervisor 4))
 
-    faulted-low : (slot turn : ℕ) (p : Process) (number references entry : ℕ) (reflected : Bool) →
-        SameStep level (faulted v slot turn s p number references entry reflected) (faulted w slot turn s p number references entry reflected)
-    faulted-low slot turn p number references entry true = record {
-      state = process-low (with_pushes v p) (with_pushes w p) (secure_with_pushes v p sv) (secure_with_pushes w p sw) (with_pushes-low v w sv sw same p) s (entered p entry);
+    faulted-low : (p : Process) (number references entry : ℕ) (reflected : Bool) →
+        SameStep level (faulted v at p number references entry reflected) (faulted w at p number references entry reflected)
+    faulted-low p number references entry true = record {
+      state = process-low (with_pushes v p) (with_pushes w p) (secure_with_pushes v p sv) (secure_with_pushes w p sw) (with_pushes-low v w sv sw same p) at.subject (entered p entry);
       items = refl;
     }
-    faulted-low slot turn p number references entry false = record { state = process-low v w sv sw same s (record p { status = Stopped number }); items = refl }
+    faulted-low p number references entry false = record { state = process-low v w sv sw same at.subject (record p { status = Stopped number }); items = refl }
 
-    ended-low : (slot turn : ℕ) (p : Process) (references : ℕ) (event : execution.Event) → SameStep level (ended v slot turn s p references event) (ended w slot turn s p references event)
-    ended-low slot turn p references ends.Ran = record { state = process-low v w sv sw same s p; items = refl }
-    ended-low slot turn p references (ends.Call number) = call-low slot turn p number references
-    ended-low slot turn p references (ends.Fault cause) =
-        subst (λ b. SameStep level (ended v slot turn s p references (ends.Fault cause)) (faulted w slot turn s p (fault_number cause) references (slice_index p.entries (fault_number cause)) b))
+    ended-low : (p : Process) (references : ℕ) (event : execution.Event) → SameStep level (ended v at p references event) (ended w at p references event)
+    ended-low p references ends.Ran = record { state = process-low v w sv sw same at.subject p; items = refl }
+    ended-low p references (ends.Call number) = call-low p number references
+    ended-low p references (ends.Fault cause) =
+        subst (λ b. SameStep level (ended v at p references (ends.Fault cause)) (faulted w at p (fault_number cause) references (slice_index p.entries (fault_number cause)) b))
         (reflected-same p (slice_index p.entries (fault_number cause)))
-        (faulted-low slot turn p (fault_number cause) references (slice_index p.entries (fault_number cause)) (is_reflected v s p (slice_index p.entries (fault_number cause))))
+        (faulted-low p (fault_number cause) references (slice_index p.entries (fault_number cause)) (is_reflected v at.subject p (slice_index p.entries (fault_number cause))))
 
   -- ---- the turn
 
-  module _ (v w : State) (sv : Secure v) (sw : Secure w) (same : low level v ≡ low level w) (s : ℕ) (seen : is_subject_under level v s ≡ true) where
-    took-low : (slot turn : ℕ) (p : Process) (x : Done) → SameStep level (took v slot turn s p x) (took w slot turn s p x)
-    took-low slot turn p x = ended-low (applied (written p.windows) v x.write) (applied (written p.windows) w x.write)
-        (secure_applied p.windows v x.write sv) (secure_applied p.windows w x.write sw) (applied-low v w sv sw same p.windows x.write) s
-        (ap (λ fixed. is_subject_under level (fixed_to fixed v) s) (applied-fixed p.windows v x.write) ∙ seen)
-        slot turn (record p { registers = x.regs }) x.references x.outcome
+  module _ (v w : State) (sv : Secure v) (sw : Secure w) (same : low level v ≡ low level w) (at : At) (seen : is_subject_under level v at.subject ≡ true) where
+    executed-low : (p : Process) (x : Done) → SameStep level (executed v at p x) (executed w at p x)
+    executed-low p x = ended-low (applied (written p.windows) v x.write) (applied (written p.windows) w x.write)
+        (secure_applied p.windows v x.write sv) (secure_applied p.windows w x.write sw) (applied-low v w sv sw same p.windows x.write) at
+        (ap (λ fixed. is_subject_under level (fixed_to fixed v) at.subject) (applied-fixed p.windows v x.write) ∙ seen)
+        (record p { registers = x.regs }) x.references x.outcome
 
-    taken-low : (slot turn : ℕ) (o : Option Process) → SameStep level (taken v slot turn s o) (taken w slot turn s o)
-    taken-low slot turn None = record { state = same; items = refl }
-    taken-low slot turn (Some p) = by p.status
+    turn_of_process-low : (o : Option Process) → SameStep level (turn_of_process v at o) (turn_of_process w at o)
+    turn_of_process-low None = record { state = same; items = refl }
+    turn_of_process-low (Some p) = by p.status
       where
-        by : (status : Status9) → SameStep level (taken_by v slot turn s p status) (taken_by w slot turn s p status)
-        by Running = subst (λ space. SameStep level (took v slot turn s p (exec (space_of v s p.windows) p.registers)) (took w slot turn s p (exec space p.registers)))
-            (spaces-same v w sv sw same s seen p.windows) (took-low slot turn p (exec (space_of v s p.windows) p.registers))
+        by : (status : Status9) → SameStep level (turn_by v at p status) (turn_by w at p status)
+        by Running = subst (λ space. SameStep level (executed v at p (exec (space_of v at.subject p.windows) p.registers)) (executed w at p (exec space p.registers)))
+            (spaces-same v w sv sw same at seen p.windows) (executed-low p (exec (space_of v at.subject p.windows) p.registers))
         by Paused = record { state = same; items = refl }
         by (Stopped cause) = record { state = same; items = refl }
 
-    process-same : process_of v s ≡ process_of w s
-    process-same = from_alike level v w (λ u. process_of v s ≡ process_of u s) sv sw same (λ secure alike. alike.process s seen)
+    process-same : process_of v at.subject ≡ process_of w at.subject
+    process-same = from_alike level v w (λ u. process_of v at.subject ≡ process_of u at.subject) sv sw same (λ secure alike. alike.process at.subject seen)
 
     -- a turn of the subject
-    pub turn-low : (slot turn : ℕ) → SameStep level (turn_of slot turn v s) (turn_of slot turn w s)
+    pub turn-low : SameStep level (turn_of at v) (turn_of at w)
     unfolding turn_of
-    turn-low slot turn = subst (λ o. SameStep level (taken v slot turn s (process_of v s)) (taken w slot turn s o)) process-same (taken-low slot turn (process_of v s))
+    turn-low = subst (λ o. SameStep level (turn_of_process v at (process_of v at.subject)) (turn_of_process w at o)) process-same (turn_of_process-low (process_of v at.subject))
+
+-- which is under the level in both
+pub subject-low : (level : Level) (v w : State) → low level v ≡ low level w → (s : ℕ) → is_subject_under level v s ≡ is_subject_under level w s
+unfolding low
+subject-low level v w same s = ap (λ view. is_subject_under level (fixed_to view.fixed v) s) same

@@ -5,7 +5,9 @@ use Rattle.bk_level.proofs.LevelOrder.{and_both}
 use Rattle.bk_quota.specs.Charges.{passes}
 use Rattle.bk_state.specs.State.{State}
 use Rattle.bk_state.specs.declared.call.Call.{Call}
-use Rattle.bk_state.specs.Calls.{call_checks, call_fails, call_refusal}
+use Rattle.bk_state.specs.Request.{Request, request_in}
+use Rattle.bk_state.specs.KernelCall.{KernelCall, fails}
+use Rattle.bk_state.specs.Calls.{definition_of, call_refusal}
 
 pub not_false : (b : Bool) → not b ≡ false → b ≡ true
 not_false true e = refl
@@ -50,10 +52,18 @@ none_first p (x ∷ xs) e = by (p x) refl e (none_first p xs)
     by true is h rest = cc
     by false is h rest = (is, rest h)
 
--- each check of a call that is not refused
-pub passed : (v : State) (s : ℕ) (call : Call) (general : List ℕ) → call_refusal v s call general ≡ None → AllByRecursion (λ c. call_fails v s call general c ≡ false) (call_checks call)
+-- no check of the call fails
+abbrev pub Passes : State → (s : ℕ) → KernelCall → Request → Type 0
+Passes v s call request = first (fails v s call request) call.checks ≡ None
+
+-- so each of them passed
+pub passed : (v : State) (s : ℕ) (call : KernelCall) (request : Request) → Passes v s call request → AllByRecursion (λ c. fails v s call request c ≡ false) call.checks
+passed v s call request e = none_first (fails v s call request) call.checks e
+
+-- a call that is not refused passed its checks
+pub not_refused : (v : State) (s : ℕ) (call : Call) (general : List ℕ) → call_refusal v s call general ≡ None → Passes v s (definition_of call) (request_in general)
 unfolding call_refusal
-passed v s call general e = none_first (call_fails v s call general) (call_checks call) e
+not_refused v s call general e = e
 
 -- what holds of each element of two lists holds of each of both
 pub every-append : {A : Type 0} (P : A → Type 0) (a b : List A) → AllByRecursion P a → AllByRecursion P b → AllByRecursion P (a ++ b)

@@ -1,14 +1,22 @@
 -- What does not lie under a level may change without a trace: objects that are not under it, what is held by subjects that
 -- are not under it, and objects of which not even the facts show.
-use Rattle.std.proofs.Common.{◌≡◌, ◌≢◌, ℕ, ◌<◌, Bool, true, false, ◌&&◌, ◌||◌, not, [], ◌∷◌, length, Option, Some, None, refl, sym, ap, ◌∙◌, ◌==◌, arith, nat_lt, true≢false}
+use Rattle.std.proofs.Common.{◌≡◌, ◌≢◌, ℕ, ◌<◌, Bool, true, false, ◌&&◌, ◌||◌, not, [], ◌∷◌, length, Option, Some, None, refl, sym, ap, ◌∙◌, ◌==◌}
+use Rattle.std.proofs.Common.{arith, nat_lt, true≢false, ◌⊎◌, inl, inr}
 use Rattle.std.proofs.lemmas.Bool.Decides.{nat_tests}
 use Rattle.std.specs.Prelude.{option_map, if◌then◌else◌}
 use Rattle.std.specs.List.{list_any}
 use Rattle.std.specs.Ordering.{eq_by_cmp}
 use Rattle.std.specs.FinMap as map
-use Rattle.bk_level.specs.Levels.{Level, dominates, is_same_level}
+use Rattle.bk_level.specs.Levels.{Level, dominates}
 use Rattle.bk_level.proofs.LevelOrder.{and_second, and_both, dominates-trans}
-use Rattle.bk_level.proofs.TableLemmas.{same_level}
+use Rattle.bk_state.specs.Secure.{Secure}
+use Rattle.bk_state.specs.Allowed.{is_allowed}
+use Rattle.bk_state.specs.RowCalls.{changed_at}
+use Rattle.bk_state.specs.AccessCalls.{with_triple, without_triples}
+use Rattle.bk_state.specs.TreeCalls.{without_group}
+use Rattle.bk_state.specs.Contents.{with_contents}
+use Rattle.bk_laws.proofs.Changes.{facts_in, with_objects, holds-with_triple, holds-retain, find-insert, find-changed_at, facts-with_contents}
+use Rattle.bk_laws.proofs.Changes.{facts_at-contents, find-without_group}
 use Rattle.bk_path.specs.Paths.{Path, is_same, is_inferior}
 use Rattle.bk_path.specs.Orders.{same_path}
 use Rattle.bk_object.specs.Modes.{Mode, Write, Append, has}
@@ -16,14 +24,11 @@ use Rattle.bk_object.specs.Rows.{in_row}
 use Rattle.bk_object.specs.declared.Facts.{Facts}
 use Rattle.bk_object.specs.declared.Modes.{Modes}
 use Rattle.bk_quota.specs.Charges.{passes}
-use Rattle.bk_state.specs.State.{State, Object, Contents, triple_cmp, find, facts_at, holds, current_level, greatest_level, level_of}
-use Rattle.bk_state.specs.Secure.{Secure, is_allowed}
-use Rattle.bk_state.specs.Changes.{changed_at, with_triple, without_triples, without_group}
-use Rattle.bk_state.specs.Answers.{with_contents}
+use Rattle.bk_state.specs.State.{State, Object, Contents, triple_cmp, find, facts_at, holds, current_level, level_of}
 use Rattle.bk_state.specs.Low.{is_subject_under, is_under, shows, contents_under}
 use Rattle.bk_state.proofs.Triples.{same_triple}
-use Rattle.bk_laws.proofs.Tests.{false_if, passes_more}
-use Rattle.bk_laws.proofs.Changes.{facts_in, with_objects, holds-with_triple, holds-retain, find-insert, find-changed_at, facts-with_contents, facts_at-contents, find-without_group}
+use Rattle.bk_laws.proofs.Tests.{false_if}
+use Rattle.bk_laws.proofs.SecureAccess.{star_above, star_of}
 use Rattle.bk_laws.proofs.Alike.{Alike, shows_under, held_shows, nothing_under, alike_itself, alike-contents}
 
 -- the object at the path is another
@@ -179,31 +184,21 @@ module _ (level : Level) (v : State) (sec : Secure v) where
         held j q mode apart true is = absurd (apart (grind (arith, nat_tests, is)))
         held j q mode apart false is = ap (λ b. holds v j q mode && not (b && is_same q path && has modes mode)) is ∙ stays (holds v j q mode)
 
-    -- what it holds by a mode has facts that its levels allow
-    allowed : (path : Path) (mode : Mode) → holds v s path mode ≡ true → passes (λ facts. is_allowed v s facts mode) (facts_at v path) ≡ true
-    allowed path mode held = passes_more _ _ (facts_at v path) (λ facts is h. and_second (has (in_row facts.row s) mode) _ h) (sec.access s path mode held)
-
-    -- an object at the subject's own level is not under the level
-    same_high : (facts : Facts) → is_allowed v s facts Write ≡ true → is_under level v facts ≡ false
-    same_high facts h =
-        let same = and_second (dominates (greatest_level v s) (level_of v facts)) (is_same_level (level_of v facts) (current_level v s)) h in
-        ap (dominates level) (same_level (level_of v facts) (current_level v s) same) ∙ not_current
-
-    -- nor is an object that dominates it
-    above_high : (facts : Facts) → is_allowed v s facts Append ≡ true → is_under level v facts ≡ false
+    -- an object that dominates its current level is not under the level
+    above_high : (facts : Facts) → dominates (level_of v facts) (current_level v s) ≡ true → is_under level v facts ≡ false
     above_high facts h = false_if _ (λ under. true≢false (sym (dominates-trans level (level_of v facts) (current_level v s) under h) ∙ not_current))
 
-    high_by : (mode : Mode) → ((facts : Facts) → is_allowed v s facts mode ≡ true → is_under level v facts ≡ false) → (path : Path) → holds v s path mode ≡ true →
-        passes (is_under level v) (facts_at v path) ≡ false
-    high_by mode high path held = by (facts_at v path) (allowed path mode held)
+    -- so what it holds by write or append is not, by the *-property
+    high_by : (mode : Mode) → (mode ≡ Write) ⊎ (mode ≡ Append) → (path : Path) → holds v s path mode ≡ true → passes (is_under level v) (facts_at v path) ≡ false
+    high_by mode one path held = by (facts_at v path) (sec.access s path mode held)
       where
-        by : (a : Option Facts) → passes (λ facts. is_allowed v s facts mode) a ≡ true → passes (is_under level v) a ≡ false
+        by : (a : Option Facts) → passes (λ facts. has (in_row facts.row s) mode && is_allowed v s facts mode) a ≡ true → passes (is_under level v) a ≡ false
         by None h = refl
-        by (Some facts) h = high facts h
+        by (Some facts) h = above_high facts (star_above mode (current_level v s) (level_of v facts) one (star_of v s mode facts (and_second (has (in_row facts.row s) mode) _ h)))
 
     -- what it holds by write is not under the level
     pub high_written : (path : Path) → holds v s path Write ≡ true → passes (is_under level v) (facts_at v path) ≡ false
-    high_written path held = high_by Write same_high path held
+    high_written path held = high_by Write (inl refl) path held
 
     -- so what is below a directory that it holds by write does not show
     pub hidden_below : (entry : ℕ) (path : Path) → holds v s path Write ≡ true → shows level v (entry ∷ path) ≡ false
@@ -223,5 +218,5 @@ module _ (level : Level) (v : State) (sec : Secure v) where
       where
         by : (b : Bool) → holds v s path Write ≡ b → (c : Bool) → holds v s path Append ≡ c → (b || (c || false)) ≡ true → passes (is_under level v) (facts_at v path) ≡ false
         by true is c also h = high_written path is
-        by false is true also h = high_by Append above_high path also
+        by false is true also h = high_by Append (inr refl) path also
         by false is false also h = cc

@@ -10,13 +10,13 @@ use Rattle.bk_object.specs.declared.Kind.{Kind}
 use Rattle.bk_object.specs.declared.Kind.TheVariants.{Directory, Segment, Mailbox, Line}
 use Rattle.bk_state.specs.State.{State, Object, Contents, Children, Words, Messages, Typed, find}
 use Rattle.bk_state.specs.Secure.{Secure, FitsKind}
+use Rattle.bk_system.specs.Arrivals.{typed, taking, arrived}
+use Rattle.bk_system.specs.Event.{Arrive, Turn, EndSlot, happens}
+use Rattle.bk_laws.proofs.Changes.{find-arrived, facts_at-arrived}
 use Rattle.bk_state.specs.Start.{is_line}
 use Rattle.bk_state.specs.Low.{is_line_under, is_under, contents_under, low}
-use Rattle.bk_system.specs.Slot.{typed, taking, arrived}
-use Rattle.bk_system.specs.Event.{Arrive, Turn, EndSlot, happens}
 use Rattle.bk_laws.specs.Laws.{LawUnseen}
 use Rattle.bk_laws.proofs.Tests.{false_if}
-use Rattle.bk_laws.proofs.Changes.{find-arrived, facts_at-arrived}
 use Rattle.bk_laws.proofs.Alike.{low_from_alike, alike_itself, alike-contents}
 use Rattle.bk_laws.proofs.UnseenTurns.{unseen_turn}
 
@@ -58,8 +58,8 @@ module _ (level : Level) (v : State) (line : ℕ) (bytes : List ℕ) (sec : Secu
 -- the law
 pub law_unseen : LawUnseen
 unfolding happens
-law_unseen level v (Turn slot turn s) sec blind =
-    let step = unseen_turn level s v slot turn sec blind in
+law_unseen level v (Turn at) sec blind =
+    let step = unseen_turn level at v sec blind in
     record { state = sym step.state; items = step.items }
 law_unseen level v (Arrive line bytes) sec blind = record { state = sym (unseen_arrived level v line bytes sec blind); items = refl }
 law_unseen level v EndSlot sec no_way = cc

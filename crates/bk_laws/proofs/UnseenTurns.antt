@@ -1,5 +1,6 @@
 -- No turn of a subject that is not under a level changes what lies under it, or gives an item of it.
-use Rattle.std.proofs.Common.{◌≡◌, ◌≢◌, ℕ, ◌<◌, Bool, true, false, ◌&&◌, not, List, [], ◌∷◌, length, Option, Some, None, refl, sym, ap, ◌∙◌, subst, cond, ◌==◌, arith}
+use Rattle.std.proofs.Common.{◌≡◌, ◌≢◌, ℕ, ◌<◌, Bool, true, false, ◌&&◌, not, List, [], ◌∷◌, length, Option, Some, None, refl, sym, ap, ◌∙◌, subst}
+use Rattle.std.proofs.Common.{cond, ◌==◌, arith}
 use Rattle.std.specs.Prelude.{slice_get, slice_index}
 use Rattle.bk_level.specs.Levels.{Level}
 use Rattle.bk_path.specs.Paths.{Path}
@@ -21,18 +22,22 @@ use Rattle.bk_report.specs.declared.ReportItem.TheVariants as items
 use Rattle.bk_state.specs.State.{State, holds, process_of}
 use Rattle.bk_state.specs.Secure.{Secure}
 use Rattle.bk_state.specs.Answers.{Called, called}
+use Rattle.bk_system.specs.Turn.{stored_in, written_by, written, with_process, byte_item, settled, fault_number, less, is_user, is_writable}
+use Rattle.bk_system.specs.Turn.{is_reflected, entered, with_pushes, faulted, ended, executed, turn_by, turn_of_process, turn_of}
+use Rattle.bk_laws.specs.Seen.{seen_items}
+use Rattle.bk_laws.proofs.Changes.{slice_get-set_other, status_push, counter_push, written-is}
+use Rattle.bk_system.proofs.FixedPart.{applied-fixed}
 use Rattle.bk_state.specs.Low.{is_subject_under, low}
+use Rattle.bk_system.specs.declared.at.At.{At}
 use Rattle.bk_system.specs.Space.{space_of}
 use Rattle.bk_system.specs.Step.{Step, nothing}
-use Rattle.bk_system.specs.Turn.{stored_in, written_by, written, with_process, byte_item, settled, fault_number, less, is_user, is_writable, is_reflected, entered, with_pushes, faulted, ended, took, taken_by, taken, turn_of}
-use Rattle.bk_laws.specs.Seen.{seen_items}
-use Rattle.bk_laws.proofs.SeenByFixed.{items_by}
-use Rattle.bk_laws.proofs.Changes.{slice_get-set_other, status_push, counter_push, written-is, applied-fixed}
+use Rattle.bk_laws.proofs.SeenItems.{items_by}
 use Rattle.bk_laws.proofs.SecureContents.{secure_written}
 use Rattle.bk_laws.proofs.SecureProcesses.{process_subject}
 use Rattle.bk_laws.proofs.Alike.{low_from_alike}
 use Rattle.bk_laws.proofs.Unseen.{other_subject, high_written}
-use Rattle.bk_laws.proofs.UnseenCalls.{CallsUnseen, contents_changed, unseen_called}
+use Rattle.bk_laws.proofs.UnseenChanges.{contents_changed}
+use Rattle.bk_laws.proofs.UnseenCalls.{CallsUnseen, unseen_called}
 use Rattle.bk_laws.proofs.Writes.{allowed_held, completes_held}
 
 -- ---- the process of a subject
@@ -56,7 +61,10 @@ nothing_unseen level v = record { state = refl; items = refl }
 
 -- ---- a subject that is there, and not under the level
 
-module _ (level : Level) (s : ℕ) where
+module _ (level : Level) (at : At) where
+  abbrev s : ℕ
+  s = at.subject
+
   -- the state is secure, and the subject is there and not under the level
   record IsUnseen (v : State) : Type 0 where
     secure : Secure v
@@ -109,19 +117,19 @@ module _ (level : Level) (s : ℕ) where
   -- ---- what an instruction ends as
 
   -- an item of the subject is not seen
-  unseen_call_item : (v : State) (slot turn number answer cause : ℕ) (general : List ℕ) (told : List ReportItem) → IsUnseen v → seen_items level v told ≡ [] →
-      seen_items level v (items.Call slot turn s number general answer cause ∷ told) ≡ []
-  unseen_call_item v slot turn number answer cause general told subject rest =
-      ap (λ b. cond b (items.Call slot turn s number general answer cause ∷ seen_items level v told) (seen_items level v told)) subject.blind ∙ rest
+  unseen_call_item : (v : State) (number answer cause : ℕ) (general : List ℕ) (told : List ReportItem) → IsUnseen v → seen_items level v told ≡ [] →
+      seen_items level v (items.Call at.slot at.turn at.subject number general answer cause ∷ told) ≡ []
+  unseen_call_item v number answer cause general told subject rest =
+      ap (λ b. cond b (items.Call at.slot at.turn at.subject number general answer cause ∷ seen_items level v told) (seen_items level v told)) subject.blind ∙ rest
 
-  unseen_fault_item : (v : State) (slot turn number pc : ℕ) (reflected : Bool) → IsUnseen v → seen_items level v (items.Fault slot turn s number pc reflected ∷ []) ≡ []
-  unseen_fault_item v slot turn number pc reflected subject = ap (λ b. cond b (items.Fault slot turn s number pc reflected ∷ []) []) subject.blind
+  unseen_fault_item : (v : State) (number pc : ℕ) (reflected : Bool) → IsUnseen v → seen_items level v (items.Fault at.slot at.turn at.subject number pc reflected ∷ []) ≡ []
+  unseen_fault_item v number pc reflected subject = ap (λ b. cond b (items.Fault at.slot at.turn at.subject number pc reflected ∷ []) []) subject.blind
 
-  unseen_settled : (v : State) (slot turn : ℕ) (p : Process) (number references : ℕ) (call : Called) → IsUnseen v →
-      CallsUnseen level v slot turn call → StepUnseen level v (settled v slot turn s p number references call)
-  unseen_settled v slot turn p number references call subject unseen = record {
+  unseen_settled : (v : State) (p : Process) (number references : ℕ) (call : Called) → IsUnseen v →
+      CallsUnseen level v at call → StepUnseen level v (settled v at p number references call)
+  unseen_settled v p number references call subject unseen = record {
     state = unseen.state ∙ unseen_process level (record v { objects = call.objects; access = call.access }) s call.process (other_subject level v subject.secure s subject.real subject.blind);
-    items = unseen_call_item v slot turn number _ _ p.registers.general (byte_item slot turn call.sent) subject unseen.byte;
+    items = unseen_call_item v number _ _ p.registers.general (byte_item at call.sent) subject unseen.byte;
   }
 
   -- what a test of four says of the last two
@@ -133,47 +141,47 @@ module _ (level : Level) (s : ℕ) where
       (is_writable v s p.windows (less p.registers.supervisor 2) ≡ true) × (is_writable v s p.windows (less p.registers.supervisor 4) ≡ true)
   writable v p entry is = last_two (is_user p.registers.ps.mode) (not (entry == 0)) _ _ is
 
-  unseen_faulted : (v : State) (slot turn : ℕ) (p : Process) (number references entry : ℕ) (reflected : Bool) → IsUnseen v → is_reflected v s p entry ≡ reflected →
-      StepUnseen level v (faulted v slot turn s p number references entry reflected)
-  unseen_faulted v slot turn p number references entry true subject is =
+  unseen_faulted : (v : State) (p : Process) (number references entry : ℕ) (reflected : Bool) → IsUnseen v → is_reflected v s p entry ≡ reflected →
+      StepUnseen level v (faulted v at p number references entry reflected)
+  unseen_faulted v p number references entry true subject is =
       let (first, second) = writable v p entry is in
       record {
         state = unseen_pushes v p subject first second ∙ unseen_own (with_pushes v p) (entered p entry) (unseen_after_pushes v p subject);
-        items = unseen_fault_item v slot turn number p.registers.pc true subject;
+        items = unseen_fault_item v number p.registers.pc true subject;
       }
-  unseen_faulted v slot turn p number references entry false subject is = record {
+  unseen_faulted v p number references entry false subject is = record {
     state = unseen_own v (record p { status = Stopped number }) subject;
-    items = unseen_fault_item v slot turn number p.registers.pc false subject;
+    items = unseen_fault_item v number p.registers.pc false subject;
   }
 
-  unseen_ended : (v : State) (slot turn : ℕ) (p : Process) (references : ℕ) (event : Event) → IsUnseen v → StepUnseen level v (ended v slot turn s p references event)
-  unseen_ended v slot turn p references Ran subject = record { state = unseen_own v p subject; items = refl }
-  unseen_ended v slot turn p references (Call number) subject =
-      unseen_settled v slot turn p number references (called v s p number) subject (unseen_called level v subject.secure s subject.real subject.blind slot turn p number)
-  unseen_ended v slot turn p references (Fault cause) subject =
-      unseen_faulted v slot turn p (fault_number cause) references (slice_index p.entries (fault_number cause)) (is_reflected v s p (slice_index p.entries (fault_number cause))) subject refl
+  unseen_ended : (v : State) (p : Process) (references : ℕ) (event : Event) → IsUnseen v → StepUnseen level v (ended v at p references event)
+  unseen_ended v p references Ran subject = record { state = unseen_own v p subject; items = refl }
+  unseen_ended v p references (Call number) subject =
+      unseen_settled v p number references (called v s p number) subject (unseen_called level v subject.secure s subject.real subject.blind at p number)
+  unseen_ended v p references (Fault cause) subject =
+      unseen_faulted v p (fault_number cause) references (slice_index p.entries (fault_number cause)) (is_reflected v s p (slice_index p.entries (fault_number cause))) subject refl
 
   -- ---- the turn
 
-  unseen_took : (v : State) (slot turn : ℕ) (p : Process) (x : Done) → IsUnseen v → IsAllowed (space_of v s p.windows) x.write → StepUnseen level v (took v slot turn s p x)
-  unseen_took v slot turn p x subject allowed =
+  unseen_executed : (v : State) (p : Process) (x : Done) → IsUnseen v → IsAllowed (space_of v s p.windows) x.write → StepUnseen level v (executed v at p x)
+  unseen_executed v p x subject allowed =
       let after = applied (written p.windows) v x.write in
-      let step = unseen_ended after slot turn (record p { registers = x.regs }) x.references x.outcome (unseen_after_instruction v p.windows x.write subject) in
+      let step = unseen_ended after (record p { registers = x.regs }) x.references x.outcome (unseen_after_instruction v p.windows x.write subject) in
       record {
         state = unseen_applied v p.windows x.write subject allowed ∙ step.state;
-        items = sym (items_by level after v (applied-fixed p.windows v x.write) (took v slot turn s p x).items) ∙ step.items;
+        items = sym (items_by level after v (applied-fixed p.windows v x.write) (executed v at p x).items) ∙ step.items;
       }
 
-  unseen_taken_by : (v : State) (slot turn : ℕ) (p : Process) (status : Status9) → IsUnseen v → StepUnseen level v (taken_by v slot turn s p status)
-  unseen_taken_by v slot turn p Running subject = unseen_took v slot turn p (exec (space_of v s p.windows) p.registers) subject (exec_allowed (space_of v s p.windows) p.registers)
-  unseen_taken_by v slot turn p Paused subject = nothing_unseen level v
-  unseen_taken_by v slot turn p (Stopped cause) subject = nothing_unseen level v
+  unseen_turn_by : (v : State) (p : Process) (status : Status9) → IsUnseen v → StepUnseen level v (turn_by v at p status)
+  unseen_turn_by v p Running subject = unseen_executed v p (exec (space_of v s p.windows) p.registers) subject (exec_allowed (space_of v s p.windows) p.registers)
+  unseen_turn_by v p Paused subject = nothing_unseen level v
+  unseen_turn_by v p (Stopped cause) subject = nothing_unseen level v
 
-  unseen_taken : (v : State) (slot turn : ℕ) (o : Option Process) → Secure v → is_subject_under level v s ≡ false → process_of v s ≡ o → StepUnseen level v (taken v slot turn s o)
-  unseen_taken v slot turn None sec blind is = nothing_unseen level v
-  unseen_taken v slot turn (Some p) sec blind is = unseen_taken_by v slot turn p p.status (record { secure = sec; real = process_subject v s p sec is; blind = blind })
+  unseen_turn_of_process : (v : State) (o : Option Process) → Secure v → is_subject_under level v s ≡ false → process_of v s ≡ o → StepUnseen level v (turn_of_process v at o)
+  unseen_turn_of_process v None sec blind is = nothing_unseen level v
+  unseen_turn_of_process v (Some p) sec blind is = unseen_turn_by v p p.status (record { secure = sec; real = process_subject v s p sec is; blind = blind })
 
   -- a turn of the subject
-  pub unseen_turn : (v : State) (slot turn : ℕ) → Secure v → is_subject_under level v s ≡ false → StepUnseen level v (turn_of slot turn v s)
+  pub unseen_turn : (v : State) → Secure v → is_subject_under level v s ≡ false → StepUnseen level v (turn_of at v)
   unfolding turn_of
-  unseen_turn v slot turn sec blind = unseen_taken v slot turn (process_of v s) sec blind refl
+  unseen_turn v sec blind = unseen_turn_of_process v (process_of v s) sec blind refl

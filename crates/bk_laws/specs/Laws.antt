@@ -1,6 +1,7 @@
 -- What holds of every event, and of every run.
 use Rattle.std.specs.Prelude.{◌≡◌, ◌≤◌, ◌*◌, ℕ, List, [], true, false, length}
 use Rattle.bk_level.specs.Levels.{Level}
+use Rattle.bk_object.specs.Rows.{most_subjects}
 use Rattle.bk_state.specs.declared.image.Image.{Image}
 use Rattle.bk_report.specs.Lines.{line_records_of}
 use Rattle.bk_state.specs.Low.{is_line_under, low}
@@ -8,10 +9,11 @@ use Rattle.bk_state.specs.Secure.{Secure}
 use Rattle.bk_state.specs.Start.{state_of}
 use Rattle.bk_state.specs.State.{State}
 use Rattle.bk_system.specs.declared.script.TypedAt.{TypedAt}
-use Rattle.bk_system.specs.Event.{Event, happens, all_happen, run_events}
+use Rattle.bk_system.specs.Event.{Event, happens, all_happen}
+use Rattle.bk_system.specs.Kept.{keep}
 use Rattle.bk_system.specs.Report.{report_of}
-use Rattle.bk_system.specs.Slot.{run_of}
-use Rattle.bk_laws.specs.Seen.{is_seen, seen_events, seen_items, keep}
+use Rattle.bk_system.specs.Slot.{run_events}
+use Rattle.bk_laws.specs.Seen.{is_seen, seen_events, seen_items, seen_told}
 
 -- a secure state stays secure, and its fixed part stays
 pub record KeepsSecure (v : State) (event : Event) : Type 0 where
@@ -23,15 +25,16 @@ pub record HappensUnseen (level : Level) (v : State) (event : Event) : Type 0 wh
   pub state : low level (happens v event).state ≡ low level v
   pub items : seen_items level v (happens v event).items ≡ []
 
--- what is seen at a level does the same, and tells the same, wherever the same lies under it
+-- what is seen at a level is seen, does the same and tells the same wherever the same lies under it
 pub record HappensAlike (level : Level) (v w : State) (event : Event) : Type 0 where
+  pub seen : is_seen level w event ≡ true
   pub state : low level (happens v event).state ≡ low level (happens w event).state
   pub items : (happens v event).items ≡ (happens w event).items
 
 -- two runs end with the same under the level, and tell the same of it
 pub record RunAlike (level : Level) (v w : State) (events others : List Event) : Type 0 where
   pub state : low level (all_happen v events).state ≡ low level (all_happen w others).state
-  pub items : seen_items level v (all_happen v events).items ≡ seen_items level w (all_happen w others).items
+  pub items : seen_told level v events ≡ seen_told level w others
 
 abbrev pub LawSecure : Type 0
 LawSecure = (v : State) (event : Event) → Secure v → KeepsSecure v event
@@ -51,20 +54,16 @@ abbrev pub LawRuns : Type 0
 LawRuns = (level : Level) (v w : State) (events others : List Event) → Secure v → Secure w → low level v ≡ low level w →
     seen_events level v events ≡ seen_events level w others → RunAlike level v w events others
 
--- a run from an image is the list of its events
-abbrev pub LawEvents : Type 0
-LawEvents = (image : Image) (records : List TypedAt) (n : ℕ) →
-    run_of image records n ≡ all_happen (state_of image) (run_events (state_of image) records n)
-
--- a run from an image tells the same of what a level sees as the run without the bytes typed on other lines
+-- the run from an image, and the run without the bytes typed on lines that are not under a level, end with the same under the
+-- level and tell the same of it
 abbrev pub LawKept : Type 0
 LawKept = (level : Level) (image : Image) (records : List TypedAt) (n : ℕ) → Secure (state_of image) →
-    seen_items level (state_of image) (run_of image records n).items
-    ≡ seen_items level (state_of image) (run_of image (keep level (state_of image) records) n).items
+    RunAlike level (state_of image) (state_of image) (run_events (state_of image).fixed records n)
+    (run_events (state_of image).fixed (keep level (state_of image) records) n)
 
 -- the limits of an image and of the slots of a script for it
 pub record IsLimited (image : Image) (n : ℕ) : Type 0 where
-  pub subjects : length image.subjects ≤ 32
+  pub subjects : length image.subjects ≤ most_subjects
   pub lines : image.lines ≤ 16
   pub turns : image.turns ≤ 4096
   pub slots : n ≤ 65535

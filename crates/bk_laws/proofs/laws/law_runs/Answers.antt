@@ -1,12 +1,8 @@
 use Rattle.bk_laws.proofs.Isolation.{runs, kept, lines}
-use Rattle.bk_laws.proofs.RunEvents.{law_events}
 use Rattle.bk_laws.proofs.laws.law_runs.Goals as goal
 
 pub returns-clause-runs : goal.returns-clause-runs
 returns-clause-runs c = runs
-
-pub returns-clause-events : goal.returns-clause-events
-returns-clause-events c = law_events
 
 pub returns-clause-kept : goal.returns-clause-kept
 returns-clause-kept c = kept
