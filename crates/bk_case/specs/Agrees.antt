@@ -5,7 +5,7 @@ use Rattle.bk_space.specs.AddrSpace.{Page}
 use Rattle.bk_space.specs.Counts.{counted_on}
 use Rattle.bk_isa.specs.Codes.{HasSingle}
 use Rattle.bk_isa.specs.Decode.{decode_of}
-use Rattle.bk_isa.specs.Numbers.{bits_of}
+use Rattle.bk_space.specs.Widths.{bits_of}
 use Rattle.bk_isa.specs.Results.{binary_of, unary_of}
 use Rattle.bk_isa.specs.Extended.{mul_of, div_of, ash_of, ashc_of}
 use Rattle.bk_case.specs.declared.step_case.StepCase.{StepCase}

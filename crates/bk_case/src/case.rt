@@ -1,5 +1,5 @@
 ghost use Rattle.std.specs.Prelude.{◌≡◌, ◌↔◌, ◌<◌, ◌^◌, IsTrue};
-ghost use Rattle.bk_isa.specs.Numbers.{bits_of};
+ghost use Rattle.bk_space.specs.Widths.{bits_of};
 ghost use Rattle.bk_case.specs.Agrees.{Agrees};
 
 use crate::word::{has_single, reads_as};

@@ -3,15 +3,19 @@
 //! Model: `specs/Agrees.antt` (`Agrees`, `IsGiven`), over the definitions of `bk_isa` and `bk_exec`.
 //! Calls: `agrees`, `step_agrees`; `Tally::new`, `count`, `is_clean`.
 //! Proved: a case of a result or of a word agrees exactly where the definitions give its answer, and a tally counts each once.
-//! A step agrees only where over some pages the definition gives its registers, event and number of references; that these
-//! are the pages of the case is shown by test alone.
-//! Stands on: `bk_isa`, `bk_word`, `bk_exec`, `bk_cpu`.
+//! A step agrees only where over some pages the definition gives its registers, event and number of references.
+//! Tested: worked rows of `step` and of a plain bus: the points of the processor's tables that are easy to misread. That the
+//! pages over which a step agrees are those of its case, by the run of `bk_vectors`.
+//! Neither: nothing.
+//! Stands on: `bk_cpu`, `bk_exec`, `bk_isa`, `bk_space`, `bk_word`.
 #![tactic(auto)]
 
 mod case;
 mod step_case;
 mod stepped;
 mod tally;
+#[cfg(test)]
+mod tests;
 mod unread;
 mod word;
 

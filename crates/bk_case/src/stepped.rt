@@ -6,15 +6,15 @@ ghost use Rattle.bk_case.specs.Agrees.{IsGiven};
 
 use crate::step_case::{CasePage, Content, StepCase};
 use crate::unread::Unread;
-use bk_cpu::{Event, PlainBus, step};
-use bk_space::{Flags, Mode, Ps, Regs, Width};
+use bk_cpu::{Event, PlainBus, WORDS_OF_BLOCK, WORDS_OF_PAGE, step};
+use bk_space::{Flags, Mode, PAGES, Ps, Regs, Width, merged};
 use std::alloc::{AllocError, Global};
 
 /// The words of a page, all 0.
 fn zeros(alloc: Global, blocks: u8) -> Result<Vec<u16>, AllocError>
-    ensures { IfOk result (λ words. vec_len words ≡ 32 * blocks) }
+    ensures { IfOk result (λ words. vec_len words ≡ WORDS_OF_BLOCK * blocks) }
 {
-    let words = vec![in alloc; 0; 32 * blocks as usize]?;
+    let words = vec![in alloc; 0; WORDS_OF_BLOCK * blocks as usize]?;
     Ok(words)
 }
 
@@ -24,13 +24,7 @@ fn put(words: &mut [u16], content: Content) -> bool {
         Some(word) => {
             *word = match content.width {
                 Width::Word => content.value,
-                Width::Byte => {
-                    if content.offset % 2 == 0 {
-                        *word & 0o177400 | content.value & 0o377
-                    } else {
-                        *word & 0o377 | (content.value & 0o377) << 8
-                    }
-                }
+                Width::Byte => merged(Width::Byte, content.offset, content.value % 256, *word),
             };
             true
         }
@@ -64,13 +58,13 @@ fn bus_of(alloc: Global, case: &StepCase) -> Result<PlainBus, Unread>
     let mut page = 0u8;
     for shape in &case.pages {
         let words = filled(alloc, page, *shape, case.words.as_slice())?;
-        if page > 31 || words.len() % 32 != 0 || words.len() > 4096 {
+        if page >= PAGES || words.len() % WORDS_OF_BLOCK != 0 || words.len() > WORDS_OF_PAGE {
             return Err(Unread::Form);
         }
         bus.set_page(page, shape.rights, words);
         page += 1;
     }
-    if page == 32 {
+    if page == PAGES {
         Ok(bus)
     } else {
         Err(Unread::Form)
@@ -79,7 +73,7 @@ fn bus_of(alloc: Global, case: &StepCase) -> Result<PlainBus, Unread>
 
 /// Whether the pages are those of the case after its write.
 fn has_pages(alloc: Global, bus: &PlainBus, case: &StepCase) -> Result<bool, Unread> {
-    for page in 0..32u8 {
+    for page in 0..PAGES {
         let Some(shape) = case.pages.get(page as usize) else {
             return Err(Unread::Form);
         };

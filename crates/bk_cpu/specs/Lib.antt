@@ -1,4 +1,3 @@
-pub mod Moved
 pub mod Pages
 pub mod Plain
 pub mod Reached

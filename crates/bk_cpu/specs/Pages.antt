@@ -6,5 +6,6 @@ use Rattle.bk_cpu.specs.declared.page.PlainPage.{PlainPage}
 abbrev pub page_of : PlainPage → Page
 page_of page = record { rights = page.rights; words = page.words.items }
 
+-- all of them
 abbrev pub pages_of : List PlainPage → List Page
 pages_of pages = map page_of pages

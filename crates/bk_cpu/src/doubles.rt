@@ -6,9 +6,10 @@ ghost use Rattle.bk_exec.specs.Operands.{comparing, combining, double_of};
 ghost use Rattle.bk_cpu.specs.Reached.{Reaches, left_by};
 
 use crate::moving::move_value;
+use crate::operands::operands;
 use bk_exec::Ending;
 use bk_isa::Bin;
-use bk_operand::{fetch, locate, store};
+use bk_operand::{fetch, store};
 use bk_space::{Bus, Cause, Field, Regs, Undo, Width};
 use bk_word::binary;
 
@@ -31,9 +32,7 @@ fn compare<B: Bus>(
     ensures state { B.state bus.new ≡ left_by B.after (B.state bus.old) (comparing (B.shown (B.state bus.old)) op width src dst regs.old).outcome }
     ensures undone { OnErr result (undone undo.new regs.new ≡ undone undo.old regs.old) }
 {
-    let from = locate(regs, undo, bus, src, width)?;
-    let value = fetch(regs, bus, from, width)?;
-    let to = locate(regs, undo, bus, dst, width)?;
+    let (value, to) = operands(regs, undo, bus, width, src, dst)?;
     let old = fetch(regs, bus, to, width)?;
     let (_, flags) = binary(op, width, value, old, regs.ps.flags);
     regs.ps.flags = flags;
@@ -59,9 +58,7 @@ fn combine<B: Bus>(
     ensures state { B.state bus.new ≡ left_by B.after (B.state bus.old) (combining (B.shown (B.state bus.old)) op width src dst regs.old).outcome }
     ensures undone { OnErr result (undone undo.new regs.new ≡ undone undo.old regs.old) }
 {
-    let from = locate(regs, undo, bus, src, width)?;
-    let value = fetch(regs, bus, from, width)?;
-    let to = locate(regs, undo, bus, dst, width)?;
+    let (value, to) = operands(regs, undo, bus, width, src, dst)?;
     let old = fetch(regs, bus, to, width)?;
     let (word, flags) = binary(op, width, value, old, regs.ps.flags);
     store(regs, bus, to, width, word)?;

@@ -1,16 +1,16 @@
 ghost use Rattle.std.specs.Prelude.{◌≡◌, ◌<◌, ◌^◌, OnErr};
 ghost use Rattle.bk_space.specs.Counts.{counted_on};
-ghost use Rattle.bk_space.specs.Undo.{undone, HasRoom, IsFresh};
+ghost use Rattle.bk_space.specs.Undo.{undone, IsFresh};
 ghost use Rattle.bk_space.specs.Widths.{bits_of};
 ghost use Rattle.bk_isa.specs.Codes.{IsField};
 ghost use Rattle.bk_operand.specs.Operand.{IsPlace};
-ghost use Rattle.bk_exec.specs.Operands.{moved_width, sign_extended, moving};
-ghost use Rattle.bk_cpu.specs.Moved.{moved_to, moved_from};
+ghost use Rattle.bk_exec.specs.Operands.{moved_width, sign_extended, moved_to, moving};
 ghost use Rattle.bk_cpu.specs.Reached.{Reaches, left_by};
 
+use crate::operands::operands;
 use bk_exec::Ending;
 use bk_isa::Bin;
-use bk_operand::{Place, fetch, locate, store};
+use bk_operand::{Place, store};
 use bk_space::{Bus, Cause, Field, Regs, Undo, Width};
 use bk_word::binary;
 
@@ -44,7 +44,7 @@ fn extend(width: Width, to: Place, value: u16) -> u16
 }
 
 // MOV from the destination's place on: it is written and not read.
-#[tactic(auto, unfolding(crate::specs::Moved::moved_to))]
+#[tactic(auto, unfolding(bk_exec::specs::Operands::moved_to))]
 fn move_to_place<B: Bus>(
     regs: &mut Regs,
     bus: &mut B,
@@ -65,32 +65,8 @@ fn move_to_place<B: Bus>(
     Ok(Ending::Completed)
 }
 
-// MOV from the source's place on: it is fetched whole before the destination's address is formed, so
-// that (R)+ as destination sees R already stepped.
-#[tactic(auto, using(bk_space::proofs::CountLemmas::counted_lemmas), unfolding(crate::specs::Moved::moved_from))]
-fn move_from_place<B: Bus>(
-    regs: &mut Regs,
-    undo: &mut Undo,
-    bus: &mut B,
-    width: Width,
-    from: Place,
-    dst: Field,
-) -> Result<Ending, Cause>
-    requires from { IsPlace from }
-    requires dst { IsField dst }
-    requires room { HasRoom undo.old }
-    ensures reaches { Reaches result regs.new (moved_from (B.shown (B.state bus.old)) width from dst regs.old) }
-    ensures count { B.references bus.new ≡ counted_on (B.references bus.old) (moved_from (B.shown (B.state bus.old)) width from dst regs.old).made }
-    ensures state { B.state bus.new ≡ left_by B.after (B.state bus.old) (moved_from (B.shown (B.state bus.old)) width from dst regs.old).outcome }
-    ensures undone { OnErr result (undone undo.new regs.new ≡ undone undo.old regs.old) }
-{
-    let value = fetch(regs, bus, from, width)?;
-    let to = locate(regs, undo, bus, dst, width)?;
-    move_to_place(regs, bus, width, value, to)
-}
-
 /// MOV.
-#[tactic(auto, using(bk_space::proofs::CountLemmas::counted_lemmas), unfolding(bk_exec::specs::Operands::moving, crate::specs::Moved::moved_from, crate::specs::Moved::moved_to))]
+#[tactic(auto, using(bk_space::proofs::CountLemmas::counted_lemmas), unfolding(bk_exec::specs::Operands::moving))]
 pub(crate) fn move_value<B: Bus>(
     regs: &mut Regs,
     undo: &mut Undo,
@@ -107,6 +83,6 @@ pub(crate) fn move_value<B: Bus>(
     ensures state { B.state bus.new ≡ left_by B.after (B.state bus.old) (moving (B.shown (B.state bus.old)) width src dst regs.old).outcome }
     ensures undone { OnErr result (undone undo.new regs.new ≡ undone undo.old regs.old) }
 {
-    let from = locate(regs, undo, bus, src, width)?;
-    move_from_place(regs, undo, bus, width, from, dst)
+    let (value, to) = operands(regs, undo, bus, width, src, dst)?;
+    move_to_place(regs, bus, width, value, to)
 }

@@ -13,7 +13,8 @@ use Rattle.bk_isa.specs.declared.operation.Un.{Un}
 use Rattle.bk_isa.specs.declared.operation.Un.TheVariants.{Clr, Com, Inc, Dec, Neg, Adc, Sbc, Tst, Ror, Rol, Asr, Asl, Swab, Sxt}
 use Rattle.bk_isa.specs.declared.operation.EisOp.{EisOp}
 use Rattle.bk_isa.specs.declared.instr.Instr.{Instr}
-use Rattle.bk_isa.specs.declared.instr.Instr.TheVariants.{Double, Single, Xor, Eis, Jmp, Jsr, Rts, Sob, Mark, Mfp, Mtp, Branch, Codes, Spl, Emt, Trap, Halt, Wait, Rti, Bpt, Iot, Reset, Rtt}
+use Rattle.bk_isa.specs.declared.instr.Instr.TheVariants.{Double, Single, Xor, Eis, Jmp, Jsr, Rts, Sob, Mark, Mfp, Mtp, Branch}
+use Rattle.bk_isa.specs.declared.instr.Instr.TheVariants.{Codes, Spl, Emt, Trap, Halt, Wait, Rti, Bpt, Iot, Reset, Rtt}
 use Rattle.bk_isa.specs.Decode.{decode_of}
 use Rattle.bk_operand.specs.declared.place.Place.{Place}
 use Rattle.bk_operand.specs.declared.place.Place.TheVariants.{Reg, Mem}
@@ -21,7 +22,7 @@ use Rattle.bk_operand.specs.Part.{Part, made_after, ◌>>=◌, reading, writing,
 use Rattle.bk_operand.specs.Operand.{pointed, indexed, indexed_deferred, located, fetched, stored}
 use Rattle.bk_exec.specs.declared.ending.Ending.{Ending}
 use Rattle.bk_exec.specs.Given.{Given, pushed, popped}
-use Rattle.bk_exec.specs.Operands.{moving, comparing, combining, double_of, setting, testing, changing, single_of, exclusive}
+use Rattle.bk_exec.specs.Operands.{sourced, moved_to, moving, comparing, combining, double_of, setting, testing, changing, single_of, exclusive}
 use Rattle.bk_exec.specs.Extended.{extending}
 use Rattle.bk_exec.specs.Control.{jump_to, jumping, call_to, calling, returning, marking, resuming}
 use Rattle.bk_exec.specs.Previous.{fetched_previous, stored_previous, moving_from, moving_to}
@@ -104,24 +105,27 @@ popped_most pages regs = both_most _ _ 1 0 (reading_most _ _ _ _ _ _) (λ x. non
 abbrev HasMost : Part Given → Type 0
 HasMost part = part.made ≤ 7
 
+sourced_most : (pages : AddrSpace) (width : Width) (src dst : Field) (regs : Regs) → (sourced pages width src dst regs).made ≤ 5
+unfolding sourced
+sourced_most pages width src dst regs =
+    both_most _ _ 2 3 (located_most _ _ _ _) (λ from. both_most _ _ 1 2 (fetched_most _ _ _ _) (λ value.
+    both_most _ _ 2 0 (located_most _ _ _ _) (λ to. none 0)))
+
 moving_most : (pages : AddrSpace) (width : Width) (src dst : Field) (regs : Regs) → HasMost (moving pages width src dst regs)
-unfolding moving
+unfolding moving moved_to
 moving_most pages width src dst regs =
-    both_most _ _ 2 5 (located_most _ _ _ _) (λ from. both_most _ _ 1 4 (fetched_most _ _ _ _) (λ value.
-    both_most _ _ 2 2 (located_most _ _ _ _) (λ to. both_most _ _ 1 1 (stored_most _ _ _ _ _) (λ write. none 1))))
+    both_most _ _ 5 2 (sourced_most _ _ _ _ _) (λ both. both_most _ _ 1 1 (stored_most _ _ _ _ _) (λ write. none 1))
 
 comparing_most : (pages : AddrSpace) (op : Bin) (width : Width) (src dst : Field) (regs : Regs) → HasMost (comparing pages op width src dst regs)
 unfolding comparing
 comparing_most pages op width src dst regs =
-    both_most _ _ 2 5 (located_most _ _ _ _) (λ from. both_most _ _ 1 4 (fetched_most _ _ _ _) (λ value.
-    both_most _ _ 2 2 (located_most _ _ _ _) (λ to. both_most _ _ 1 1 (fetched_most _ _ _ _) (λ old. none 1))))
+    both_most _ _ 5 2 (sourced_most _ _ _ _ _) (λ both. both_most _ _ 1 1 (fetched_most _ _ _ _) (λ old. none 1))
 
 combining_most : (pages : AddrSpace) (op : Bin) (width : Width) (src dst : Field) (regs : Regs) → HasMost (combining pages op width src dst regs)
 unfolding combining
 combining_most pages op width src dst regs =
-    both_most _ _ 2 5 (located_most _ _ _ _) (λ from. both_most _ _ 1 4 (fetched_most _ _ _ _) (λ value.
-    both_most _ _ 2 2 (located_most _ _ _ _) (λ to. both_most _ _ 1 1 (fetched_most _ _ _ _) (λ old.
-    both_most _ _ 1 0 (stored_most _ _ _ _ _) (λ write. none 0)))))
+    both_most _ _ 5 2 (sourced_most _ _ _ _ _) (λ both. both_most _ _ 1 1 (fetched_most _ _ _ _) (λ old.
+    both_most _ _ 1 0 (stored_most _ _ _ _ _) (λ write. none 0)))
 
 double_most : (pages : AddrSpace) (op : Bin) (width : Width) (src dst : Field) (regs : Regs) → HasMost (double_of pages op width src dst regs)
 unfolding double_of

@@ -13,7 +13,8 @@ use Rattle.bk_isa.specs.declared.operation.Un.{Un}
 use Rattle.bk_isa.specs.declared.operation.Un.TheVariants.{Clr, Com, Inc, Dec, Neg, Adc, Sbc, Tst, Ror, Rol, Asr, Asl, Swab, Sxt}
 use Rattle.bk_isa.specs.declared.operation.EisOp.{EisOp}
 use Rattle.bk_isa.specs.declared.instr.Instr.{Instr}
-use Rattle.bk_isa.specs.declared.instr.Instr.TheVariants.{Double, Single, Xor, Eis, Jmp, Jsr, Rts, Sob, Mark, Mfp, Mtp, Branch, Codes, Spl, Emt, Trap, Halt, Wait, Rti, Bpt, Iot, Reset, Rtt}
+use Rattle.bk_isa.specs.declared.instr.Instr.TheVariants.{Double, Single, Xor, Eis, Jmp, Jsr, Rts, Sob, Mark, Mfp, Mtp, Branch}
+use Rattle.bk_isa.specs.declared.instr.Instr.TheVariants.{Codes, Spl, Emt, Trap, Halt, Wait, Rti, Bpt, Iot, Reset, Rtt}
 use Rattle.bk_isa.specs.Decode.{decode_of}
 use Rattle.bk_operand.specs.declared.place.Place.{Place}
 use Rattle.bk_operand.specs.declared.place.Place.TheVariants.{Reg, Mem}
@@ -21,7 +22,7 @@ use Rattle.bk_operand.specs.Part.{Part, given, cut_off, outcome_after, answered,
 use Rattle.bk_operand.specs.Operand.{stored}
 use Rattle.bk_exec.specs.declared.ending.Ending.{Ending}
 use Rattle.bk_exec.specs.Given.{Given, done, pushed}
-use Rattle.bk_exec.specs.Operands.{moving, comparing, combining, double_of, setting, testing, changing, single_of, exclusive}
+use Rattle.bk_exec.specs.Operands.{moved_to, moving, comparing, combining, double_of, setting, testing, changing, single_of, exclusive}
 use Rattle.bk_exec.specs.Extended.{extending}
 use Rattle.bk_exec.specs.Control.{jump_to, jumping, call_to, calling, returning, marking, resuming}
 use Rattle.bk_exec.specs.Previous.{stored_previous, moving_from, moving_to}
@@ -101,21 +102,17 @@ unfolding pushed
 pushed_allowed pages value regs = given_allowed pages _ _ (writing_allowed pages _ regs)
 
 moving_allowed : (pages : AddrSpace) (width : Width) (src dst : Field) (regs : Regs) → Allowed pages (moving pages width src dst regs)
-unfolding moving
-moving_allowed pages width src dst regs =
-    then_allowed pages _ _ (λ from. then_allowed pages _ _ (λ value. then_allowed pages _ _ (λ to.
-    done_allowed pages _ _ (stored_allowed pages _ _ _ _))))
+unfolding moving moved_to
+moving_allowed pages width src dst regs = then_allowed pages _ _ (λ both. done_allowed pages _ _ (stored_allowed pages _ _ _ _))
 
 comparing_allowed : (pages : AddrSpace) (op : Bin) (width : Width) (src dst : Field) (regs : Regs) → Allowed pages (comparing pages op width src dst regs)
 unfolding comparing
-comparing_allowed pages op width src dst regs =
-    then_allowed pages _ _ (λ from. then_allowed pages _ _ (λ value. then_allowed pages _ _ (λ to. then_allowed pages _ _ (λ old. nothing))))
+comparing_allowed pages op width src dst regs = then_allowed pages _ _ (λ both. then_allowed pages _ _ (λ old. nothing))
 
 combining_allowed : (pages : AddrSpace) (op : Bin) (width : Width) (src dst : Field) (regs : Regs) → Allowed pages (combining pages op width src dst regs)
 unfolding combining
 combining_allowed pages op width src dst regs =
-    then_allowed pages _ _ (λ from. then_allowed pages _ _ (λ value. then_allowed pages _ _ (λ to. then_allowed pages _ _ (λ old.
-    done_allowed pages _ _ (stored_allowed pages _ _ _ _)))))
+    then_allowed pages _ _ (λ both. then_allowed pages _ _ (λ old. done_allowed pages _ _ (stored_allowed pages _ _ _ _)))
 
 double_allowed : (pages : AddrSpace) (op : Bin) (width : Width) (src dst : Field) (regs : Regs) → Allowed pages (double_of pages op width src dst regs)
 unfolding double_of

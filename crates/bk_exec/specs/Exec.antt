@@ -4,7 +4,8 @@ use Rattle.bk_space.specs.declared.cause.Cause.TheVariants as causes
 use Rattle.bk_space.specs.declared.registers.Regs.{Regs}
 use Rattle.bk_space.specs.AddrSpace.{AddrSpace, Write}
 use Rattle.bk_isa.specs.declared.instr.Instr.{Instr}
-use Rattle.bk_isa.specs.declared.instr.Instr.TheVariants.{Double, Single, Xor, Eis, Jmp, Jsr, Rts, Sob, Mark, Mfp, Mtp, Branch, Codes, Spl, Emt, Trap, Halt, Wait, Rti, Bpt, Iot, Reset, Rtt}
+use Rattle.bk_isa.specs.declared.instr.Instr.TheVariants.{Double, Single, Xor, Eis, Jmp, Jsr, Rts, Sob, Mark, Mfp, Mtp, Branch}
+use Rattle.bk_isa.specs.declared.instr.Instr.TheVariants.{Codes, Spl, Emt, Trap, Halt, Wait, Rti, Bpt, Iot, Reset, Rtt}
 use Rattle.bk_isa.specs.Decode.{decode_of}
 use Rattle.bk_operand.specs.Part.{Part, given, cut_off, ◌>>=◌, next_word}
 use Rattle.bk_exec.specs.declared.ending.Ending.{Ending}

@@ -25,6 +25,7 @@ multiplied r value regs =
     let product = mul_of (reg regs r) value in
     with_flags (with_pair regs r product.0 product.1) product.2
 
+-- quotient and remainder go to R and R or 1, where there are any
 abbrev pub with_quotient : Regs → ℕ → Option (ℕ × ℕ) → Regs
 with_quotient regs r None = regs
 with_quotient regs r (Some pair) = with_pair regs r pair.0 pair.1
@@ -47,6 +48,7 @@ shifted_pair r value regs =
     let pair = ashc_of (reg regs r) (reg regs (partner r)) value in
     with_flags (with_pair regs r pair.0 pair.1) pair.2
 
+-- the registers after one of the four
 abbrev pub extended_of : EisOp → ℕ → ℕ → Regs → Regs
 extended_of Mul r value regs = multiplied r value regs
 extended_of Div r value regs = divided r value regs
@@ -60,6 +62,7 @@ extending pages op r src regs = do
   value ← fetched pages Word from.0 from.1
   done None (extended_of op r value.0 value.1)
 
+-- so many words back, unless nothing is left to count
 abbrev pub back_by : ℕ → ℕ → Regs → Regs
 back_by back left regs = if left == 0 then regs else record regs { pc = minus regs.pc (2 * back) }
 

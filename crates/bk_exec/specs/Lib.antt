@@ -1,4 +1,5 @@
 pub mod Control
+pub mod Example
 pub mod Exec
 pub mod Extended
 pub mod Given

@@ -12,7 +12,7 @@ use Rattle.bk_isa.specs.declared.operation.Un.TheVariants.{Clr, Com, Inc, Dec, N
 use Rattle.bk_isa.specs.Results.{binary_of, unary_of, xor_of}
 use Rattle.bk_operand.specs.declared.place.Place.{Place}
 use Rattle.bk_operand.specs.declared.place.Place.TheVariants.{Reg, Mem}
-use Rattle.bk_operand.specs.Part.{Part, ◌>>=◌}
+use Rattle.bk_operand.specs.Part.{Part, given, ◌>>=◌}
 use Rattle.bk_operand.specs.Operand.{located, fetched, stored}
 use Rattle.bk_exec.specs.Given.{Given, done, with_flags}
 
@@ -28,33 +28,41 @@ sign_extended Word place value = value
 sign_extended Byte (Reg r) value = if nat_lt value 0o200 then value else value + 0o177400
 sign_extended Byte (Mem space addr) value = value
 
--- MOV: the destination is written and not read
-unfoldable pub moving : AddrSpace → Width → Field → Field → Regs → Part Given
-moving pages width src dst regs = do
+-- the source's value and the destination's place: the source is fetched whole before the destination's address is formed, so
+-- that (R)+ as destination sees R already stepped
+unfoldable pub sourced : AddrSpace → Width → Field → Field → Regs → Part (ℕ × Place)
+sourced pages width src dst regs = do
   from ← located pages width src regs
   value ← fetched pages width from.0 from.1
   to ← located pages width dst value.1
-  write ← stored pages (moved_width width to.0) to.0 (sign_extended width to.0 value.0) to.1
-  done write.0 (with_flags write.1 (binary_of Mov width value.0 0 write.1.ps.flags).1)
+  given (value.0, to.0) to.1
+
+-- MOV to a place: it is written and not read
+unfoldable pub moved_to : AddrSpace → Width → ℕ → Place → Regs → Part Given
+moved_to pages width value to regs = do
+  write ← stored pages (moved_width width to) to (sign_extended width to value) regs
+  done write.0 (with_flags write.1 (binary_of Mov width value 0 write.1.ps.flags).1)
+
+-- MOV
+unfoldable pub moving : AddrSpace → Width → Field → Field → Regs → Part Given
+moving pages width src dst regs = do
+  both ← sourced pages width src dst regs
+  moved_to pages width both.0.0 both.0.1 both.1
 
 -- CMP and BIT: the destination is read and not written
 unfoldable pub comparing : AddrSpace → Bin → Width → Field → Field → Regs → Part Given
 comparing pages op width src dst regs = do
-  from ← located pages width src regs
-  value ← fetched pages width from.0 from.1
-  to ← located pages width dst value.1
-  old ← fetched pages width to.0 to.1
-  done None (with_flags old.1 (binary_of op width value.0 old.0 old.1.ps.flags).1)
+  both ← sourced pages width src dst regs
+  old ← fetched pages width both.0.1 both.1
+  done None (with_flags old.1 (binary_of op width both.0.0 old.0 old.1.ps.flags).1)
 
 -- BIC, BIS, ADD and SUB: the destination is read and then written
 unfoldable pub combining : AddrSpace → Bin → Width → Field → Field → Regs → Part Given
 combining pages op width src dst regs = do
-  from ← located pages width src regs
-  value ← fetched pages width from.0 from.1
-  to ← located pages width dst value.1
-  old ← fetched pages width to.0 to.1
-  write ← stored pages width to.0 (binary_of op width value.0 old.0 old.1.ps.flags).0 old.1
-  done write.0 (with_flags write.1 (binary_of op width value.0 old.0 old.1.ps.flags).1)
+  both ← sourced pages width src dst regs
+  old ← fetched pages width both.0.1 both.1
+  write ← stored pages width both.0.1 (binary_of op width both.0.0 old.0 old.1.ps.flags).0 old.1
+  done write.0 (with_flags write.1 (binary_of op width both.0.0 old.0 old.1.ps.flags).1)
 
 -- the instructions with two fields
 unfoldable pub double_of : AddrSpace → Bin → Width → Field → Field → Regs → Part Given

@@ -16,7 +16,8 @@ use Rattle.bk_isa.specs.declared.operation.EisOp.TheVariants.{Mul, Div, Ash, Ash
 use Rattle.bk_isa.specs.declared.operation.Cond.{Cond}
 use Rattle.bk_isa.specs.declared.operation.Cond.TheVariants.{Br, Bne, Beq, Bge, Blt, Bgt, Ble, Bpl, Bmi, Bhi, Blos, Bvc, Bvs, Bcc, Bhis, Bcs, Blo}
 use Rattle.bk_isa.specs.declared.instr.Instr.{Instr}
-use Rattle.bk_isa.specs.declared.instr.Instr.TheVariants.{Double, Single, Xor, Eis, Jmp, Jsr, Rts, Sob, Mark, Mfp, Mtp, Branch, Codes, Spl, Emt, Trap, Halt, Wait, Rti, Bpt, Iot, Reset, Rtt}
+use Rattle.bk_isa.specs.declared.instr.Instr.TheVariants.{Double, Single, Xor, Eis, Jmp, Jsr, Rts, Sob, Mark, Mfp, Mtp, Branch}
+use Rattle.bk_isa.specs.declared.instr.Instr.TheVariants.{Codes, Spl, Emt, Trap, Halt, Wait, Rti, Bpt, Iot, Reset, Rtt}
 use Rattle.bk_isa.specs.Codes.{number_of, IsField, HasDouble, HasSingle, IsListed, code_of, primary}
 use Rattle.bk_isa.specs.Decode.{look_up, doubles, eis, registers, branches, numbers, field_at, register_at, number_at, single_at, parts_of, decode_of}
 

@@ -1,4 +1,5 @@
-use Rattle.std.proofs.Common.{◌≡◌, ◌≢◌, ℕ, zero, suc, ◌+◌, ◌-◌, ◌*◌, ◌/◌, ◌%◌, ◌<◌, ◌≤◌, ◌^◌, refl, sym, ◌∙◌, ap, subst, arith, Bool, true, false, List, [], ◌∷◌, Some, None, IfSome, cond, option_map}
+use Rattle.std.proofs.Common.{◌≡◌, ◌≢◌, ℕ, zero, suc, ◌+◌, ◌-◌, ◌*◌, ◌/◌, ◌%◌, ◌<◌, ◌≤◌, ◌^◌, refl, sym, ◌∙◌, ap, subst}
+use Rattle.std.proofs.Common.{arith, Bool, true, false, List, [], ◌∷◌, Some, None, IfSome, cond, option_map}
 use Rattle.std.specs.Prelude.{Option, ◌&&◌, ◌||◌, ◌==◌, nat_lt, nat_le, if◌then◌else◌, find}
 use Rattle.std.specs.Option.{option_or}
 use Rattle.std.specs.List.{list_all}
@@ -15,7 +16,8 @@ use Rattle.bk_isa.specs.declared.table.Row.{Row}
 use Rattle.bk_isa.specs.declared.table.TheConstants.{TABLE}
 use Rattle.bk_isa.specs.declared.instr.Instr.{Instr}
 use Rattle.bk_isa.specs.declared.instr.Instr.TheVariants.{Double, Single, Eis, Branch}
-use Rattle.bk_isa.specs.Decode.{look_up, doubles, eis, registers, branches, numbers, singles, others, field_at, double_at, register_at, number_at, single_at, rest_at, parts_of, decode_of}
+use Rattle.bk_isa.specs.Decode.{look_up, doubles, eis, registers, branches, numbers, singles, others, field_at}
+use Rattle.bk_isa.specs.Decode.{double_at, register_at, number_at, single_at, rest_at, parts_of, decode_of}
 use Rattle.bk_isa.specs.Names.{name_of}
 use Rattle.bk_isa.specs.Rows.{row_name, covers}
 

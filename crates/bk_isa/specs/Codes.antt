@@ -13,7 +13,8 @@ use Rattle.bk_isa.specs.declared.operation.EisOp.TheVariants.{Mul, Div, Ash, Ash
 use Rattle.bk_isa.specs.declared.operation.Cond.{Cond}
 use Rattle.bk_isa.specs.declared.operation.Cond.TheVariants.{Br, Bne, Beq, Bge, Blt, Bgt, Ble, Bpl, Bmi, Bhi, Blos, Bvc, Bvs, Bcc, Bhis, Bcs, Blo}
 use Rattle.bk_isa.specs.declared.instr.Instr.{Instr}
-use Rattle.bk_isa.specs.declared.instr.Instr.TheVariants.{Double, Single, Xor, Eis, Jmp, Jsr, Rts, Sob, Mark, Mfp, Mtp, Branch, Codes, Spl, Emt, Trap, Halt, Wait, Rti, Bpt, Iot, Reset, Rtt}
+use Rattle.bk_isa.specs.declared.instr.Instr.TheVariants.{Double, Single, Xor, Eis, Jmp, Jsr, Rts, Sob, Mark, Mfp, Mtp, Branch}
+use Rattle.bk_isa.specs.declared.instr.Instr.TheVariants.{Codes, Spl, Emt, Trap, Halt, Wait, Rti, Bpt, Iot, Reset, Rtt}
 
 -- a field's six bits: the mode, then the register
 abbrev pub number_of : Field → ℕ
@@ -124,6 +125,7 @@ HasDouble Add Byte = ⊥
 HasDouble Sub Byte = ⊥
 HasDouble _ _ = Unit {0}
 
+-- the operation with one field has a form at this width
 abbrev pub HasSingle : Un → Width → Type 0
 HasSingle Swab Byte = ⊥
 HasSingle Sxt Byte = ⊥

@@ -1,4 +1,5 @@
-use Rattle.std.specs.Prelude.{ℕ, ◌+◌, ◌*◌, ◌/◌, ◌%◌, ◌^◌, ◌==◌, Bool, true, false, if◌then◌else◌, ℤ, pos, negsuc, ◌*ℤ◌, int_div, int_rem, Option, Some, None}
+use Rattle.std.specs.Prelude.{ℕ, ◌+◌, ◌*◌, ◌/◌, ◌%◌, ◌^◌, ◌==◌, Bool, true, false, if◌then◌else◌}
+use Rattle.std.specs.Prelude.{ℤ, pos, negsuc, ◌*ℤ◌, int_div, int_rem, Option, Some, None}
 use Rattle.bk_space.specs.declared.flags.Flags.{Flags}
 use Rattle.bk_isa.specs.Numbers.{signed, top, is_out, modulo, floor_over, is_negative, is_zero, is_odd}
 
@@ -52,6 +53,7 @@ abbrev pub shift_overflow : ℕ → ℕ → ℤ → Bool
 shift_overflow bits x (pos n) = is_out bits (signed bits x *ℤ pos (2 ^ n))
 shift_overflow bits x (negsuc m) = false
 
+-- the flags of a shift
 abbrev pub shift_flags : ℕ → ℕ → ℤ → Flags
 shift_flags bits x n = record {
   n = top bits (shift_of bits x n);

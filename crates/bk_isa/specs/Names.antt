@@ -14,9 +14,11 @@ use Rattle.bk_isa.specs.declared.operation.Cond.TheVariants.{Br, Bne, Beq, Bge, 
 use Rattle.bk_isa.specs.declared.mnemonic.Form.{Form}
 use Rattle.bk_isa.specs.declared.mnemonic.Form.TheVariants as form
 use Rattle.bk_isa.specs.declared.instr.Instr.{Instr}
-use Rattle.bk_isa.specs.declared.instr.Instr.TheVariants.{Double, Single, Xor, Eis, Jmp, Jsr, Rts, Sob, Mark, Mfp, Mtp, Branch, Codes, Spl, Emt, Trap, Halt, Wait, Rti, Bpt, Iot, Reset, Rtt}
+use Rattle.bk_isa.specs.declared.instr.Instr.TheVariants.{Double, Single, Xor, Eis, Jmp, Jsr, Rts, Sob, Mark, Mfp, Mtp, Branch}
+use Rattle.bk_isa.specs.declared.instr.Instr.TheVariants.{Codes, Spl, Emt, Trap, Halt, Wait, Rti, Bpt, Iot, Reset, Rtt}
 use Rattle.bk_isa.specs.Decode.{look_up}
 
+-- the names of the operations with two fields, on words
 abbrev pub bin_name : Bin → List ℕ
 bin_name Mov = codes "MOV"
 bin_name Cmp = codes "CMP"
@@ -26,6 +28,7 @@ bin_name Bis = codes "BIS"
 bin_name Add = codes "ADD"
 bin_name Sub = codes "SUB"
 
+-- .. of those with one field, on words
 abbrev pub un_name : Un → List ℕ
 un_name Clr = codes "CLR"
 un_name Com = codes "COM"
@@ -42,12 +45,14 @@ un_name Asl = codes "ASL"
 un_name Swab = codes "SWAB"
 un_name Sxt = codes "SXT"
 
+-- .. of the extended instruction set
 abbrev pub eis_name : EisOp → List ℕ
 eis_name Mul = codes "MUL"
 eis_name Div = codes "DIV"
 eis_name Ash = codes "ASH"
 eis_name Ashc = codes "ASHC"
 
+-- .. of the branches
 abbrev pub cond_name : Cond → List ℕ
 cond_name Br = codes "BR"
 cond_name Bne = codes "BNE"
@@ -72,6 +77,7 @@ abbrev pub width_letter : Width → List ℕ
 width_letter Word = []
 width_letter Byte = codes "B"
 
+-- the name of a move between the modes ends with its space
 abbrev pub space_letter : Space → List ℕ
 space_letter I = codes "I"
 space_letter D = codes "D"
@@ -80,6 +86,7 @@ space_letter D = codes "D"
 abbrev pub clear_name : ℕ → List ℕ
 clear_name mask = unwrap_or (look_up ((0, codes "NOP") ∷ (1, codes "CLC") ∷ (2, codes "CLV") ∷ (4, codes "CLZ") ∷ (8, codes "CLN") ∷ (15, codes "CCC") ∷ []) mask) []
 
+-- .. where they are set
 abbrev pub set_name : ℕ → List ℕ
 set_name mask = unwrap_or (look_up ((1, codes "SEC") ∷ (2, codes "SEV") ∷ (4, codes "SEZ") ∷ (8, codes "SEN") ∷ (15, codes "SCC") ∷ []) mask) []
 

@@ -1,11 +1,5 @@
+-- Numbers of so many bits, with their sign and without it: a word has 16 bits, a byte 8, two words together 32.
 use Rattle.std.specs.Prelude.{ℕ, ◌-◌, ◌/◌, ◌%◌, ◌^◌, ◌==◌, nat_lt, nat_le, Bool, true, false, if◌then◌else◌, ℤ, pos, negsuc, ◌-ℤ◌}
-use Rattle.bk_space.specs.declared.reference.Width.{Width}
-use Rattle.bk_space.specs.declared.reference.Width.TheVariants.{Word, Byte}
-
--- how many bits a width has; two words together have 32
-abbrev pub bits_of : Width → ℕ
-bits_of Word = 16
-bits_of Byte = 8
 
 -- the signed value at so many bits: from half of 2 ^ bits on, a number stands for itself less 2 ^ bits
 abbrev pub signed : ℕ → ℕ → ℤ
@@ -35,19 +29,17 @@ abbrev pub floor_over : ℤ → ℕ → ℤ
 floor_over (pos n) by = pos (n / by)
 floor_over (negsuc n) by = negsuc (n / by)
 
+-- below 0
 abbrev pub is_negative : ℤ → Bool
 is_negative (pos n) = false
 is_negative (negsuc n) = true
 
+-- 0
 abbrev pub is_zero : ℤ → Bool
 is_zero (pos n) = n == 0
 is_zero (negsuc n) = false
 
+-- odd: negsuc n is -(n + 1)
 abbrev pub is_odd : ℤ → Bool
 is_odd (pos n) = n % 2 == 1
 is_odd (negsuc n) = n % 2 == 0
-
--- 1 for true, 0 for false
-abbrev pub digit : Bool → ℕ
-digit true = 1
-digit false = 0

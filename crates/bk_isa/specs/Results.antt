@@ -7,7 +7,9 @@ use Rattle.bk_isa.specs.declared.operation.Bin.{Bin}
 use Rattle.bk_isa.specs.declared.operation.Bin.TheVariants.{Mov, Cmp, Bit, Bic, Bis, Add, Sub}
 use Rattle.bk_isa.specs.declared.operation.Un.{Un}
 use Rattle.bk_isa.specs.declared.operation.Un.TheVariants.{Clr, Com, Inc, Dec, Neg, Adc, Sbc, Tst, Ror, Rol, Asr, Asl, Swab, Sxt}
-use Rattle.bk_isa.specs.Numbers.{bits_of, signed, top, is_out, is_carry, modulo, floor_over, digit}
+use Rattle.bk_space.specs.Status.{digit}
+use Rattle.bk_space.specs.Widths.{bits_of}
+use Rattle.bk_isa.specs.Numbers.{signed, top, is_out, is_carry, modulo, floor_over}
 
 -- a result, with N its top bit, Z that it is 0, and V and C as given
 abbrev pub with_flags : Width → ℕ → Bool → Bool → ℕ × Flags
@@ -62,6 +64,7 @@ low_bit x = x % 2 == 1
 abbrev pub ror_of : Width → ℕ → Bool → ℕ
 ror_of width x c = x / 2 + digit c * 2 ^ (bits_of width - 1)
 
+-- .. to the left
 abbrev pub rol_of : Width → ℕ → Bool → ℕ
 rol_of width x c = (2 * x + digit c) % 2 ^ bits_of width
 

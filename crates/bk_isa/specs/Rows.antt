@@ -1,4 +1,4 @@
-use Rattle.std.specs.Prelude.{ℕ, Bool, true, ◌&&◌, ◌||◌, not, ◌+◌, nat_lt, nat_le, List, [], ◌∷◌, take, Option, option_map}
+use Rattle.std.specs.Prelude.{ℕ, Bool, true, ◌&&◌, ◌||◌, not, ◌+◌, ◌==◌, nat_lt, nat_le, List, [], ◌∷◌, take, Option, option_map}
 use Rattle.std.specs.Str.{bytes_eq}
 use Rattle.std.specs.List.{list_all}
 use Rattle.bk_isa.specs.declared.mnemonic.Mnemonic.{Mnemonic}
@@ -15,6 +15,7 @@ row_name row = take row.letters row.name
 abbrev pub is_named : List ℕ → Row → Bool
 is_named name row = nat_lt 0 row.letters && bytes_eq (row_name row) name
 
+-- what the name of a row stands for
 abbrev pub meaning_of : Row → Mnemonic
 meaning_of row = record { base = row.base; form = row.form }
 
@@ -35,6 +36,10 @@ all_apart (row ∷ rows) = list_all (is_apart row) rows && all_apart rows
 abbrev pub all_differ : List Row → Bool
 all_differ [] = true
 all_differ (row ∷ rows) = list_all (λ other. not (is_named (row_name row) other)) rows && all_differ rows
+
+-- the row's name is another one for the words of a row above: it covers no word of its own
+abbrev pub is_alias : Row → Bool
+is_alias row = row.words == 0
 
 -- how the first word of a row is written
 abbrev pub first_form : Row → Option Form

@@ -1,8 +1,10 @@
 ghost use Rattle.std.specs.Prelude.{◌≡◌, ◌≢◌, ◌+◌, ◌*◌, ◌/◌, ◌%◌, ◌<◌, ◌≤◌, Some, IfSome, IfNone, option_map};
 ghost use Rattle.std.specs.Option.{option_or};
 ghost use Rattle.bk_isa.specs.declared.instr.Instr.{Instr};
-ghost use Rattle.bk_isa.specs.Codes.{number_of, IsField, width_bit, double_code, single_code, eis_code, branch_code, space_bit as space_bit_of, code_of, HasDouble, HasSingle, IsListed, primary};
-ghost use Rattle.bk_isa.specs.Decode.{field_at, look_up, doubles, eis, branches, singles, others, alone, codes_at, rest_at, register_at, number_at, single_at, parts_of, decode_of};
+ghost use Rattle.bk_isa.specs.Codes.{number_of, IsField, width_bit, double_code, single_code, eis_code, branch_code};
+ghost use Rattle.bk_isa.specs.Codes.{space_bit as space_bit_of, code_of, HasDouble, HasSingle, IsListed, primary};
+ghost use Rattle.bk_isa.specs.Decode.{field_at, look_up, doubles, eis, branches, singles, others, alone, codes_at};
+ghost use Rattle.bk_isa.specs.Decode.{rest_at, register_at, number_at, single_at, parts_of, decode_of};
 
 use crate::instr::Instr;
 use crate::operation::{Bin, Cond, EisOp, Un};

@@ -1,11 +1,11 @@
-ghost use Rattle.std.specs.Prelude.{◌≡◌, ◌<◌, ◌^◌, ℕ, IsTrue, Some, codes, find, map, option_map};
+ghost use Rattle.std.specs.Prelude.{◌≡◌, ◌<◌, ◌^◌, ℕ, IsTrue, Some, [], ◌∷◌, codes, filter, find, map, option_map};
 ghost use Rattle.bk_isa.specs.declared.table.Row.{Row};
 ghost use Rattle.bk_isa.specs.declared.instr.Instr.TheVariants.{Branch};
 ghost use Rattle.bk_isa.specs.declared.operation.Cond.TheVariants.{Bhis, Blo};
 ghost use Rattle.bk_isa.specs.Codes.{code_of};
 ghost use Rattle.bk_isa.specs.Decode.{decode_of};
 ghost use Rattle.bk_isa.specs.Names.{name_of};
-ghost use Rattle.bk_isa.specs.Rows.{row_name, is_named, meaning_of, covers, all_apart, all_differ, first_form};
+ghost use Rattle.bk_isa.specs.Rows.{row_name, is_named, meaning_of, covers, is_alias, all_apart, all_differ, first_form};
 
 use crate::mnemonic::{Form, Mnemonic};
 
@@ -177,9 +177,10 @@ pub fn law_rows()
     ensures forms { map first_form TABLE ≡ map (λ row. Some row.form) TABLE }
 {}
 
-/// No two rows have one name; BHIS and BLO, whose rows cover no word of their own, stand for their branches.
+/// No two rows have one name. BHIS and BLO alone are other names for words of a row above, and stand for their branches.
 pub fn law_names()
     ensures differ { IsTrue (all_differ TABLE) }
+    ensures aliases { map row_name (filter is_alias TABLE) ≡ codes "BHIS" ∷ codes "BLO" ∷ [] }
     ensures bhis { option_map (λ row. row.base) (find (is_named (codes "BHIS")) TABLE) ≡ Some (code_of (Branch Bhis 0)) }
     ensures blo { option_map (λ row. row.base) (find (is_named (codes "BLO")) TABLE) ≡ Some (code_of (Branch Blo 0)) }
 {}

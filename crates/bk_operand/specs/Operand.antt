@@ -21,6 +21,7 @@ abbrev pub step_up : Width → ℕ → ℤ
 step_up Word r = pos 2
 step_up Byte r = if nat_le 6 r then pos 2 else pos 1
 
+-- .. down
 abbrev pub step_down : Width → ℕ → ℤ
 step_down Word r = negsuc 1
 step_down Byte r = if nat_le 6 r then negsuc 1 else negsuc 0
@@ -55,6 +56,7 @@ decremented width r regs = deferred r (moved regs r (step_down width r))
 abbrev pub pointed_by : AddrSpace → ℕ → Regs → Part Place
 pointed_by pages r regs = pointed pages (own_space r) (reg regs r) regs
 
+-- .. once it has moved
 abbrev pub decremented_deferred : AddrSpace → ℕ → Regs → Part Place
 decremented_deferred pages r regs = pointed_by pages r (moved regs r (negsuc 1))
 

@@ -24,10 +24,12 @@ given x regs = record { made = 0; outcome = Ok (x, regs) }
 abbrev pub cut_off : {X : Type 0} → Cause → Part X
 cut_off cause = record { made = 0; outcome = Err cause }
 
+-- how many references the next part makes: none after a fault
 abbrev pub made_after : {X Y : Type 0} → Result (X × Regs) Cause → (X × Regs → Part Y) → ℕ
 made_after (Ok x) next = (next x).made
 made_after (Err cause) next = 0
 
+-- what the next part gives: after a fault, that fault
 abbrev pub outcome_after : {X Y : Type 0} → Result (X × Regs) Cause → (X × Regs → Part Y) → Result (Y × Regs) Cause
 outcome_after (Ok x) next = (next x).outcome
 outcome_after (Err cause) next = Err cause
@@ -37,6 +39,7 @@ infixl 10 ◌>>=◌
 abbrev pub ◌>>=◌ : {X Y : Type 0} → Part X → (X × Regs → Part Y) → Part Y
 part >>= next = record { made = part.made + made_after part.outcome next; outcome = outcome_after part.outcome next }
 
+-- what a reference answered, seen by view; an abort is a fault
 abbrev pub answered : {X Y : Type 0} → (X → Y) → Result X Abort → Regs → Result (Y × Regs) Cause
 answered view (Ok x) regs = Ok (view x, regs)
 answered view (Err abort) regs = Err (cause_of abort)

@@ -2,8 +2,10 @@
 //!
 //! Model: none; `Agrees` of `bk_case` says when a case agrees.
 //! Calls: none. `main` takes cases on standard input, and writes those that differ, up to twenty, and the totals.
-//! Proved: no input stops it. Whether a case agrees, and how it is counted, is proved in `bk_case`; reading is tested.
-//! Stands on: `bk_case`.
+//! Proved: no input stops it. Whether a case agrees, and how it is counted, is proved in `bk_case`.
+//! Tested: how cases are read, by one run over 1,275 lines.
+//! Neither: nothing.
+//! Stands on: `bk_case`, `bk_cpu`, `bk_isa`, `bk_space`.
 #![tactic(auto)]
 
 mod block;

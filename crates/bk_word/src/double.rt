@@ -1,5 +1,5 @@
 ghost use Rattle.std.specs.Prelude.{◌≡◌, ◌<◌, ◌^◌};
-ghost use Rattle.bk_isa.specs.Numbers.{bits_of};
+ghost use Rattle.bk_space.specs.Widths.{bits_of};
 ghost use Rattle.bk_isa.specs.Results.{turned, binary_of};
 
 use crate::exact::{add, move_value, subtract};

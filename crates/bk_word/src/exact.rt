@@ -1,5 +1,5 @@
 ghost use Rattle.std.specs.Prelude.{◌≡◌, ◌<◌, ◌^◌, ◌+ℤ◌, ◌-ℤ◌};
-ghost use Rattle.bk_isa.specs.Numbers.{bits_of};
+ghost use Rattle.bk_space.specs.Widths.{bits_of};
 ghost use Rattle.bk_isa.specs.Results.{with_flags, moved, counted};
 
 use bk_space::{Flags, Width};

@@ -1,6 +1,7 @@
 ghost use Rattle.std.specs.Prelude.{◌≡◌, ◌<◌, ◌^◌, ◌+ℤ◌, ◌-ℤ◌};
 ghost use Rattle.bk_isa.specs.Codes.{HasSingle};
-ghost use Rattle.bk_isa.specs.Numbers.{bits_of, top};
+ghost use Rattle.bk_space.specs.Widths.{bits_of};
+ghost use Rattle.bk_isa.specs.Numbers.{top};
 ghost use Rattle.bk_isa.specs.Results.{with_flags, shifted, low_bit, ror_of, rol_of, asr_of, swapped, sign_of, stepped, counted, unary_of};
 
 use crate::double::complement;

@@ -1,4 +1,4 @@
-use crate::{Event, PlainBus, step};
+use bk_cpu::{Event, PlainBus, step};
 use bk_space::{Abort, Bus, Cause, Mode, Ps, Regs, Rights, Space};
 use std::alloc::{AllocError, Global};
 use std::process::Abort as Ends;
@@ -40,8 +40,11 @@ fn regs_at(r1: u16, sp: u16) -> Regs {
 
 #[test]
 fn takes_the_increment_back(rt: HostRuntime) -> Result<(), Fail> {
-    // MOV (R1)+,@#040000, with no page there.
-    let mut bus = bus_of(&rt, rt.alloc(), &[0o012137, 0o040000], &[0o123])?;
+    // MOV (R1)+,@#040000: D page 1 may be read and not written, and D page 2 has no rights.
+    let mut bus = bus_of(&rt, rt.alloc(), &[0o012137, 0o040000], &[])?;
+    let held = padded(rt.alloc(), &[0o123], 32)?;
+    assert_eq!(rt; held.len(), 32);
+    bus.set_page(25, Rights::Read, held);
     let mut regs = regs_at(0o020000, 0);
     let before = regs;
     assert_eq!(rt; step(&mut regs, &mut bus), Event::Fault(Cause::NonResident));
@@ -87,9 +90,40 @@ fn returns_to_its_own_modes(rt: HostRuntime) -> Result<(), Fail> {
     Ok(())
 }
 
+// MFPD @#020000, and then MTPD @0(R1), in supervisor mode with the user's mode before it: words, addresses and pointers are the
+// supervisor's, the operand is in the user's D space.
+#[test]
+fn moves_between_modes(rt: HostRuntime) -> Result<(), Fail> {
+    let mut bus = PlainBus::new(rt.alloc()).ok().ok_or("memory")?;
+    let code = padded(rt.alloc(), &[0o106537, 0o020000, 0o106671, 0], 32)?;
+    let stack = padded(rt.alloc(), &[0, 0, 0, 0, 0o020002], 32)?;
+    let held = padded(rt.alloc(), &[0o123, 0o5], 32)?;
+    assert!(rt; code.len() == 32 && stack.len() == 32 && held.len() == 32);
+    bus.set_page(0, Rights::Read, code);
+    bus.set_page(9, Rights::Write, stack);
+    bus.set_page(25, Rights::Write, held);
+    let mut regs = Regs::process(Ps::process(Mode::Supervisor, Mode::User));
+    regs.general[1] = 0o020010;
+    regs.supervisor = 0o020004;
+    assert_eq!(rt; step(&mut regs, &mut bus), Event::Ran);
+    assert_eq!(rt;
+        (regs.pc, regs.supervisor, bus.references()),
+        (4, 0o020002, 4)
+    );
+    assert_eq!(rt; bus.words(9).get(1).copied(), Some(0o123));
+    assert_eq!(rt; step(&mut regs, &mut bus), Event::Ran);
+    assert_eq!(rt;
+        (regs.pc, regs.supervisor, bus.references()),
+        (8, 0o020004, 9)
+    );
+    assert_eq!(rt; bus.words(25).get(1).copied(), Some(0o123));
+    assert_eq!(rt; bus.words(9).get(1).copied(), Some(0o123));
+    Ok(())
+}
+
 /// What one instruction gives: the event, the references, the PC, R1, the user's stack pointer, the
 /// status, and the words from 020000 on.
-#[derive(Drop)]
+#[derive(Clone, Copy)]
 struct Row {
     name: &'static str,
     code: [u16; 2],
@@ -126,92 +160,82 @@ fn check(rt: &impl Ends, alloc: Global, row: &Row) -> Result<(), Fail> {
 // The points of the tables that are easy to misread.
 #[test]
 fn gives_each_row(rt: HostRuntime) -> Result<(), Fail> {
-    let ran = Event::Ran;
     let reserved = Event::Fault(Cause::Reserved);
+    let rest = Row {
+        name: "the rest",
+        code: [0, 0],
+        held: [0, 0],
+        r1: 0,
+        sp: 0,
+        low: 0,
+        event: Event::Ran,
+        references: 1,
+        after: (2, 0, 0, 0o174000),
+        left: [0, 0],
+    };
     for row in [
         Row {
             name: "JSR R1,(R1)+ pushes the raised R1",
             code: [0o004121, 0],
-            held: [0, 0],
             r1: 0o000100,
             sp: 0o020002,
-            low: 0,
-            event: ran,
             references: 2,
             after: (0o000100, 0o000002, 0o020000, 0o174000),
             left: [0o000102, 0],
+            ..rest
         },
         Row {
             name: "JSR SP,@#000100 pushes the pointer as it was",
             code: [0o004637, 0o000100],
-            held: [0, 0],
-            r1: 0,
             sp: 0o020002,
-            low: 0,
-            event: ran,
             references: 3,
             after: (0o000100, 0, 0o000004, 0o174000),
             left: [0o020002, 0],
+            ..rest
         },
         Row {
             name: "JMP R1 is reserved",
             code: [0o000101, 0],
-            held: [0, 0],
             r1: 2,
-            sp: 0,
             low: 0o37,
             event: reserved,
-            references: 1,
             after: (0, 2, 0, 0o174037),
-            left: [0, 0],
+            ..rest
         },
         Row {
             name: "JSR PC,R1 is reserved",
             code: [0o004701, 0],
-            held: [0, 0],
             r1: 2,
-            sp: 0,
-            low: 0,
             event: reserved,
-            references: 1,
             after: (0, 2, 0, 0o174000),
-            left: [0, 0],
+            ..rest
         },
         Row {
             name: "HALT",
             code: [0, 0],
-            held: [0, 0],
-            r1: 0,
-            sp: 0,
-            low: 0,
             event: reserved,
-            references: 1,
             after: (0, 0, 0, 0o174000),
-            left: [0, 0],
+            ..rest
         },
         Row {
             name: "MFPD #5 reads D space at the operand's address",
             code: [0o106527, 0o5],
-            held: [0, 0],
-            r1: 0,
             sp: 0o020002,
-            low: 0,
             event: Event::Fault(Cause::NonResident),
             references: 2,
             after: (0, 0, 0o020002, 0o174000),
-            left: [0, 0],
+            ..rest
         },
         Row {
             name: "MFPI (R1)+ from I space",
             code: [0o006521, 0o7],
-            held: [0, 0],
             r1: 2,
             sp: 0o020002,
             low: 0o17,
-            event: ran,
             references: 3,
             after: (2, 4, 0o020000, 0o174001),
             left: [0o7, 0],
+            ..rest
         },
         Row {
             name: "MTPD @R1 pops first",
@@ -219,155 +243,121 @@ fn gives_each_row(rt: HostRuntime) -> Result<(), Fail> {
             held: [0o5, 0o6],
             r1: 0o020000,
             sp: 0o020002,
-            low: 0,
-            event: ran,
             references: 3,
             after: (2, 0o020000, 0o020004, 0o174000),
             left: [0o6, 0o6],
+            ..rest
         },
         Row {
             name: "MTPI SP takes the popped word",
             code: [0o006606, 0],
             held: [0o5, 0o6],
-            r1: 0,
             sp: 0o020002,
-            low: 0,
-            event: ran,
             references: 2,
             after: (2, 0, 0o000006, 0o174000),
             left: [0o5, 0o6],
+            ..rest
         },
         Row {
             name: "DIV by zero keeps the increment",
             code: [0o071421, 0],
-            held: [0, 0],
             r1: 0o020000,
-            sp: 0,
-            low: 0,
-            event: ran,
             references: 2,
             after: (2, 0o020002, 0, 0o174003),
-            left: [0, 0],
+            ..rest
         },
         Row {
             name: "MUL #3,SP sets SP and PC",
             code: [0o070627, 0o3],
-            held: [0, 0],
-            r1: 0,
             sp: 0o100000,
-            low: 0,
-            event: ran,
             references: 2,
             after: (0o100000, 0, 0o177776, 0o174011),
-            left: [0, 0],
+            ..rest
         },
         Row {
             name: "SOB PC,. makes the PC odd",
             code: [0o077700, 0],
-            held: [0, 0],
-            r1: 0,
-            sp: 0,
-            low: 0,
-            event: ran,
-            references: 1,
             after: (1, 0, 0, 0o174000),
-            left: [0, 0],
+            ..rest
         },
         Row {
             name: "SWAB @#020000 has N and Z of the low byte",
             code: [0o000337, 0o020000],
             held: [0o100001, 0],
-            r1: 0,
-            sp: 0,
             low: 0o7,
-            event: ran,
             references: 4,
             after: (4, 0, 0, 0o174010),
             left: [0o000600, 0],
+            ..rest
         },
         Row {
             name: "CLR (R1)+ writes without a read",
             code: [0o005021, 0],
             held: [0o5, 0o6],
             r1: 0o020000,
-            sp: 0,
             low: 0o3,
-            event: ran,
             references: 2,
             after: (2, 0o020002, 0, 0o174004),
             left: [0, 0o6],
+            ..rest
         },
         Row {
             name: "MOVB #377,R1 extends the sign",
             code: [0o112701, 0o377],
-            held: [0, 0],
             r1: 5,
-            sp: 0,
             low: 0o1,
-            event: ran,
             references: 2,
             after: (4, 0o177777, 0, 0o174011),
-            left: [0, 0],
+            ..rest
         },
         Row {
             name: "CLRB R1 changes the low byte alone",
             code: [0o105001, 0],
-            held: [0, 0],
             r1: 0o123456,
-            sp: 0,
-            low: 0,
-            event: ran,
-            references: 1,
             after: (2, 0o123400, 0, 0o174004),
-            left: [0, 0],
+            ..rest
         },
         Row {
             name: "TSTB (SP)+ steps by 2",
             code: [0o105726, 0],
             held: [0o600, 0],
-            r1: 0,
             sp: 0o020001,
-            low: 0,
-            event: ran,
             references: 2,
             after: (2, 0, 0o020003, 0o174000),
             left: [0o600, 0],
+            ..rest
         },
         Row {
             name: "TST (R1) reads and doesn't write",
             code: [0o005711, 0],
             held: [0o100000, 0],
             r1: 0o020000,
-            sp: 0,
             low: 0o3,
-            event: ran,
             references: 2,
             after: (2, 0o020000, 0, 0o174010),
             left: [0o100000, 0],
+            ..rest
         },
         Row {
             name: "XOR R1,(R1)+ takes R1 as it was",
             code: [0o074121, 0],
             held: [0o020001, 0],
             r1: 0o020000,
-            sp: 0,
             low: 0o1,
-            event: ran,
             references: 3,
             after: (2, 0o020002, 0, 0o174001),
             left: [0o000001, 0],
+            ..rest
         },
         Row {
             name: "ADD (R1)+,(R1)+ has the source first",
             code: [0o062121, 0],
             held: [0o1, 0o2],
             r1: 0o020000,
-            sp: 0,
-            low: 0,
-            event: ran,
             references: 4,
             after: (2, 0o020004, 0, 0o174000),
             left: [0o1, 0o3],
+            ..rest
         },
         Row {
             name: "RTS R1",
@@ -375,203 +365,211 @@ fn gives_each_row(rt: HostRuntime) -> Result<(), Fail> {
             held: [0o5, 0],
             r1: 0o100,
             sp: 0o020000,
-            low: 0,
-            event: ran,
             references: 2,
             after: (0o100, 0o5, 0o020002, 0o174000),
             left: [0o5, 0],
+            ..rest
         },
         Row {
             name: "WAIT with T",
             code: [0o000001, 0],
-            held: [0, 0],
-            r1: 0,
-            sp: 0,
             low: 0o20,
             event: Event::Fault(Cause::Break),
-            references: 1,
             after: (2, 0, 0, 0o174020),
-            left: [0, 0],
+            ..rest
         },
         Row {
             name: "SPL 7 does nothing",
             code: [0o000237, 0],
-            held: [0, 0],
-            r1: 0,
-            sp: 0,
-            low: 0,
-            event: ran,
-            references: 1,
-            after: (2, 0, 0, 0o174000),
-            left: [0, 0],
+            ..rest
         },
         Row {
             name: "EMT with T",
             code: [0o104026, 0],
-            held: [0, 0],
-            r1: 0,
-            sp: 0,
             low: 0o20,
             event: Event::Call(0o26),
-            references: 1,
             after: (2, 0, 0, 0o174020),
-            left: [0, 0],
+            ..rest
         },
         Row {
             name: "TRAP with T",
             code: [0o104400, 0],
-            held: [0, 0],
-            r1: 0,
-            sp: 0,
             low: 0o20,
             event: Event::Fault(Cause::Trap),
-            references: 1,
             after: (2, 0, 0, 0o174020),
-            left: [0, 0],
+            ..rest
         },
         Row {
             name: "BPT",
             code: [0o000003, 0],
-            held: [0, 0],
-            r1: 0,
-            sp: 0,
-            low: 0,
             event: Event::Fault(Cause::Break),
-            references: 1,
-            after: (2, 0, 0, 0o174000),
-            left: [0, 0],
+            ..rest
         },
         Row {
             name: "IOT",
             code: [0o000004, 0],
-            held: [0, 0],
-            r1: 0,
-            sp: 0,
-            low: 0,
             event: Event::Fault(Cause::Iot),
-            references: 1,
-            after: (2, 0, 0, 0o174000),
-            left: [0, 0],
+            ..rest
+        },
+        Row {
+            name: "MOV R1,(R1) writes without a read",
+            code: [0o010111, 0],
+            held: [0o5, 0],
+            r1: 0o020000,
+            low: 0o6,
+            references: 2,
+            after: (2, 0o020000, 0, 0o174000),
+            left: [0o020000, 0],
+            ..rest
+        },
+        Row {
+            name: "MOVB R1,(R1) writes its byte without a read",
+            code: [0o110111, 0],
+            held: [0o177777, 0],
+            r1: 0o020001,
+            references: 2,
+            after: (2, 0o020001, 0, 0o174000),
+            left: [0o000777, 0],
+            ..rest
+        },
+        Row {
+            name: "CMP R1,(R1) writes nothing",
+            code: [0o020111, 0],
+            held: [0o020001, 0],
+            r1: 0o020000,
+            references: 2,
+            after: (2, 0o020000, 0, 0o174011),
+            left: [0o020001, 0],
+            ..rest
+        },
+        Row {
+            name: "BIT R1,(R1) writes nothing",
+            code: [0o030111, 0],
+            held: [0o000003, 0],
+            r1: 0o020000,
+            low: 0o1,
+            references: 2,
+            after: (2, 0o020000, 0, 0o174005),
+            left: [0o000003, 0],
+            ..rest
+        },
+        Row {
+            name: "RESET with T",
+            code: [0o000005, 0],
+            low: 0o20,
+            event: Event::Fault(Cause::Break),
+            after: (2, 0, 0, 0o174020),
+            ..rest
+        },
+        Row {
+            name: "SPL 7 with T",
+            code: [0o000237, 0],
+            low: 0o20,
+            event: Event::Fault(Cause::Break),
+            after: (2, 0, 0, 0o174020),
+            ..rest
+        },
+        Row {
+            name: "BPT with T",
+            code: [0o000003, 0],
+            low: 0o20,
+            event: Event::Fault(Cause::Break),
+            after: (2, 0, 0, 0o174020),
+            ..rest
+        },
+        Row {
+            name: "IOT with T",
+            code: [0o000004, 0],
+            low: 0o20,
+            event: Event::Fault(Cause::Iot),
+            after: (2, 0, 0, 0o174020),
+            ..rest
         },
         Row {
             name: "RTI that pops T",
             code: [0o000002, 0],
             held: [0o100, 0o20],
-            r1: 0,
             sp: 0o020000,
-            low: 0,
             event: Event::Fault(Cause::Break),
             references: 3,
             after: (0o100, 0, 0o020004, 0o174020),
             left: [0o100, 0o20],
+            ..rest
         },
         Row {
             name: "RTT that pops T",
             code: [0o000006, 0],
             held: [0o100, 0o20],
-            r1: 0,
             sp: 0o020000,
-            low: 0,
-            event: ran,
             references: 3,
             after: (0o100, 0, 0o020004, 0o174020),
             left: [0o100, 0o20],
+            ..rest
         },
         Row {
             name: "RTI with no stack",
             code: [0o000002, 0],
-            held: [0, 0],
-            r1: 0,
-            sp: 0,
-            low: 0,
             event: Event::Fault(Cause::NonResident),
             references: 2,
             after: (0, 0, 0, 0o174000),
-            left: [0, 0],
+            ..rest
         },
         Row {
             name: "MFPI (R0) with no stack",
             code: [0o006510, 0],
-            held: [0, 0],
-            r1: 0,
-            sp: 0,
-            low: 0,
             event: Event::Fault(Cause::NonResident),
             references: 3,
             after: (0, 0, 0, 0o174000),
-            left: [0, 0],
+            ..rest
         },
         Row {
             name: "CLR @#040000 without a page",
             code: [0o005037, 0o040000],
-            held: [0, 0],
-            r1: 0,
-            sp: 0,
-            low: 0,
             event: Event::Fault(Cause::NonResident),
             references: 3,
             after: (0, 0, 0, 0o174000),
-            left: [0, 0],
+            ..rest
         },
         Row {
             name: "MOV R0,-(SP) with an odd pointer",
             code: [0o010046, 0],
-            held: [0, 0],
-            r1: 0,
             sp: 0o000001,
-            low: 0,
             event: Event::Fault(Cause::Odd),
             references: 2,
             after: (0, 0, 1, 0o174000),
-            left: [0, 0],
+            ..rest
         },
         Row {
             name: "MOV (R1)+,-(SP) takes both moves back",
             code: [0o012146, 0],
             held: [0o5, 0],
             r1: 0o020000,
-            sp: 0,
-            low: 0,
             event: Event::Fault(Cause::NonResident),
             references: 3,
             after: (0, 0o020000, 0, 0o174000),
             left: [0o5, 0],
+            ..rest
         },
         Row {
             name: "TST (R1) beyond the page",
             code: [0o005711, 0],
-            held: [0, 0],
             r1: 0o020100,
-            sp: 0,
-            low: 0,
             event: Event::Fault(Cause::Length),
             references: 2,
             after: (0, 0o020100, 0, 0o174000),
-            left: [0, 0],
+            ..rest
         },
         Row {
             name: "CCC",
             code: [0o000257, 0],
-            held: [0, 0],
-            r1: 0,
-            sp: 0,
             low: 0o17,
-            event: ran,
-            references: 1,
-            after: (2, 0, 0, 0o174000),
-            left: [0, 0],
+            ..rest
         },
         Row {
             name: "BR to the word before 0",
             code: [0o000776, 0],
-            held: [0, 0],
-            r1: 0,
-            sp: 0,
-            low: 0,
-            event: ran,
-            references: 1,
             after: (0o177776, 0, 0, 0o174000),
-            left: [0, 0],
+            ..rest
         },
     ] {
         check(&rt, rt.alloc(), &row)?;
@@ -603,7 +601,16 @@ fn refers_by_rights_and_length(rt: HostRuntime) -> Result<(), Fail> {
     assert_eq!(rt; whole.len(), 4096);
     bus.set_page(25, Rights::Read, whole);
     assert_eq!(rt; bus.read_word(user, data, 0o037776), Ok(0));
-    assert_eq!(rt; bus.references(), 11);
+    assert_eq!(rt;
+        bus.write_word(user, data, 0o020000, 1),
+        Err(Abort::ReadOnly)
+    );
+    assert_eq!(rt;
+        bus.write_byte(user, data, 0o037777, 1),
+        Err(Abort::ReadOnly)
+    );
+    assert_eq!(rt; bus.read_word(user, data, 0o020000), Ok(0));
+    assert_eq!(rt; bus.references(), 14);
 
     // The last word of the address space, and then the PC is at 0 again.
     let mut last = padded(rt.alloc(), &[], 4096)?;
