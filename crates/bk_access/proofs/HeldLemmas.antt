@@ -7,6 +7,7 @@ use Rattle.std.specs.Cmp.{IsTotalOrder, nat_cmp_total, on_total, then_total, tie
 use Rattle.std.specs.FinMap as map
 use Rattle.std.specs.FinMap.{IsAntisymmetric, nat_cmp-IsAntisymmetric}
 use Rattle.std.proofs.lemmas.Bool.Decides.{nat_tests}
+use Rattle.std.proofs.Math.Bool.{and-false, and-true, or-false}
 use Rattle.bk_object.specs.declared.modes.Modes.{Modes}
 use Rattle.bk_object.specs.Modes.{Mode, Read, Execute, Write, Append, has, no_modes, union, without}
 use Rattle.bk_object.proofs.ModeLemmas.{has-union, has-without}
@@ -123,18 +124,6 @@ moved subject slot s k held same = by (s == subject) (k == slot) refl refl same
     by true false e f same = cc
     by false b e f same = cc
 
-or-none : (a : Bool) → a ≡ (a || false)
-or-none true = refl
-or-none false = refl
-
-and-all : (a : Bool) → a ≡ (a && true)
-and-all true = refl
-and-all false = refl
-
-and-none : (a : Bool) → false ≡ (a && false)
-and-none true = refl
-and-none false = refl
-
 pub holds-added : (subject slot s k : ℕ) (modes : Modes) (held : Held) (mode : Mode) →
     holds (added subject slot modes held) s k mode ≡ (holds held s k mode || (((s == subject) && (k == slot)) && has modes mode))
 holds-added subject slot s k modes held mode =
@@ -142,7 +131,7 @@ holds-added subject slot s k modes held mode =
   where
     by : (b : Bool) → ((s == subject) && (k == slot)) ≡ b → has (cond b (union (modes_at held subject slot) modes) (modes_at held s k)) mode ≡ (holds held s k mode || (b && has modes mode))
     by true same = has-union (modes_at held subject slot) modes mode ∙ ap (λ set. has set mode || has modes mode) (moved subject slot s k held same)
-    by false other = or-none (holds held s k mode)
+    by false other = sym (or-false (holds held s k mode))
 
 pub holds-removed : (subject slot s k : ℕ) (modes : Modes) (held : Held) (mode : Mode) →
     holds (removed subject slot modes held) s k mode ≡ (holds held s k mode && not (((s == subject) && (k == slot)) && has modes mode))
@@ -151,11 +140,11 @@ holds-removed subject slot s k modes held mode =
   where
     by : (b : Bool) → ((s == subject) && (k == slot)) ≡ b → has (cond b (without (modes_at held subject slot) modes) (modes_at held s k)) mode ≡ (holds held s k mode && not (b && has modes mode))
     by true same = has-without (modes_at held subject slot) modes mode ∙ ap (λ set. has set mode && not (has modes mode)) (moved subject slot s k held same)
-    by false other = and-all (holds held s k mode)
+    by false other = sym (and-true (holds held s k mode))
 
 pub holds-cleared : (slot s k : ℕ) (held : Held) (mode : Mode) → holds (cleared slot held) s k mode ≡ (holds held s k mode && not (k == slot))
 holds-cleared slot s k held mode = ap (λ set. has set mode) (modes_at-cleared slot held s k) ∙ by (k == slot)
   where
     by : (b : Bool) → has (cond b no_modes (modes_at held s k)) mode ≡ (holds held s k mode && not b)
-    by true = has-none mode ∙ and-none (holds held s k mode)
-    by false = and-all (holds held s k mode)
+    by true = has-none mode ∙ sym (and-false (holds held s k mode))
+    by false = sym (and-true (holds held s k mode))

@@ -12,6 +12,7 @@ use Rattle.bk_object.specs.Modes.{Mode, has, no_modes, union, without}
 abbrev pub Key : Type 0
 Key = ℕ × ℕ
 
+-- by subject, and then by slot
 abbrev pub key_cmp : Key → Key → Ordering
 key_cmp = then_cmp (on (λ key. key.0) nat_cmp) (on (λ key. key.1) nat_cmp)
 

@@ -1,7 +1,9 @@
 // The current access set, by slots and subjects.
 
-ghost use Rattle.std.specs.Prelude.{◌≡◌, ◌<◌, ℕ, IfOk};
-ghost use Rattle.bk_object.specs.Modes.{no_modes};
+ghost use Rattle.std.specs.Prelude.{◌≡◌, ◌<◌, ℕ, length, slice_index_or, slice_set, [], IfOk};
+ghost use Rattle.std.specs.List.{All};
+ghost use Rattle.bk_object.specs.Modes.{no_modes, union, without};
+ghost use Rattle.bk_object.specs.Rows.{empty_row, in_row, most_subjects};
 ghost use Rattle.bk_access.specs.Held.{added, cleared, modes_at, nothing_held, removed};
 
 use bk_base::NoMemory;
@@ -10,7 +12,7 @@ use std::alloc::Global;
 use std::marker::Model;
 
 /// The current access set (MTR-2997): which subject holds which object by which modes now. An object is named by its
-/// slot in the table of objects, a subject by its number, 0 to 31.
+/// slot in the table of objects, a subject by its number, below `MOST_SUBJECTS`.
 ///
 /// A clause sees the map from subject and slot to modes, and the number that all slots are below.
 #[derive(Drop)]
@@ -45,35 +47,35 @@ impl Access {
         Ok(Access { rows })
     }
 
-    /// The modes by which the subject, 0 to 31, holds the slot's object; none at first. Nothing is held for other
+    /// The modes by which the subject holds the slot's object; none at first. Nothing is held for other
     /// subjects or at other slots than those of `reserve`.
     pub fn modes(&self, subject: u8, slot: Slot) -> Modes
-        requires subject { subject < 32 }
+        requires subject { subject < most_subjects }
         requires slot { slot.n < self.now.slots }
         ensures value { result ≡ modes_at self.now subject slot.n }
         ensures four { result.0 < 16 }
-        ensures outside { (s k : ℕ) → ¬ ((s < 32) × (k < self.now.slots)) → modes_at self.now s k ≡ no_modes }
+        ensures outside { (s k : ℕ) → ¬ ((s < most_subjects) × (k < self.now.slots)) → modes_at self.now s k ≡ no_modes }
     {
-        self.rows[slot.n as usize].get(subject)
+        modes_in(&self.rows, subject, slot)
     }
 
-    /// The subject, 0 to 31, holds the slot's object by these modes too. All else that is held stays.
+    /// The subject holds the slot's object by these modes too. All else that is held stays.
     pub fn add(&mut self, subject: u8, slot: Slot, modes: Modes)
-        requires subject { subject < 32 }
+        requires subject { subject < most_subjects }
         requires slot { slot.n < self.old.slots }
         ensures { self.new ≡ added subject slot.n modes self.old }
     {
-        self.rows[slot.n as usize].add(subject, modes);
+        add_in(&mut self.rows, subject, slot, modes);
     }
 
-    /// The subject, 0 to 31, no longer holds the slot's object by these modes; of modes that it doesn't hold nothing
+    /// The subject no longer holds the slot's object by these modes; of modes that it doesn't hold nothing
     /// changes. All else that is held stays.
     pub fn remove(&mut self, subject: u8, slot: Slot, modes: Modes)
-        requires subject { subject < 32 }
+        requires subject { subject < most_subjects }
         requires slot { slot.n < self.old.slots }
         ensures { self.new ≡ removed subject slot.n modes self.old }
     {
-        self.rows[slot.n as usize].remove(subject, modes);
+        remove_in(&mut self.rows, subject, slot, modes);
     }
 
     /// No subject holds the slot's object by any mode any more. What is held of all other objects stays.
@@ -81,6 +83,45 @@ impl Access {
         requires { slot.n < self.old.slots }
         ensures { self.new ≡ cleared slot.n self.old }
     {
-        self.rows[slot.n as usize] = Row::new();
+        clear_in(&mut self.rows, slot);
     }
+}
+
+// The subject's modes in the slot's row.
+fn modes_in(rows: &Vec<Row>, subject: u8, slot: Slot) -> Modes
+    requires subject { subject < most_subjects }
+    requires slot { slot.n < length rows.now.items }
+    ensures value { result ≡ in_row (slice_index_or rows.now.items slot.n []) subject }
+    ensures four { result.0 < 16 }
+{
+    rows[slot.n as usize].get(subject)
+}
+
+// The subject has these modes too in the slot's row.
+fn add_in(rows: &mut Vec<Row>, subject: u8, slot: Slot, modes: Modes)
+    requires subject { subject < most_subjects }
+    requires slot { slot.n < length rows.old.items }
+    ensures value { rows.new.items ≡ slice_set rows.old.items slot.n (slice_set (slice_index_or rows.old.items slot.n []) subject (union (in_row (slice_index_or rows.old.items slot.n []) subject) modes)) }
+    ensures whole { All (λ row. length row ≡ most_subjects) rows.old.items → All (λ row. length row ≡ most_subjects) rows.new.items }
+{
+    rows[slot.n as usize].add(subject, modes);
+}
+
+// The subject no longer has these modes in the slot's row.
+fn remove_in(rows: &mut Vec<Row>, subject: u8, slot: Slot, modes: Modes)
+    requires subject { subject < most_subjects }
+    requires slot { slot.n < length rows.old.items }
+    ensures value { rows.new.items ≡ slice_set rows.old.items slot.n (slice_set (slice_index_or rows.old.items slot.n []) subject (without (in_row (slice_index_or rows.old.items slot.n []) subject) modes)) }
+    ensures whole { All (λ row. length row ≡ most_subjects) rows.old.items → All (λ row. length row ≡ most_subjects) rows.new.items }
+{
+    rows[slot.n as usize].remove(subject, modes);
+}
+
+// The slot's row has nothing.
+fn clear_in(rows: &mut Vec<Row>, slot: Slot)
+    requires { slot.n < length rows.old.items }
+    ensures value { rows.new.items ≡ slice_set rows.old.items slot.n empty_row }
+    ensures whole { All (λ row. length row ≡ most_subjects) rows.old.items → All (λ row. length row ≡ most_subjects) rows.new.items }
+{
+    rows[slot.n as usize] = Row::new();
 }

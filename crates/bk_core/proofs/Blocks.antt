@@ -1,11 +1,13 @@
 -- The words of blocks after other blocks are written.
-use Rattle.std.proofs.Common.{◌≡◌, ℕ, zero, suc, ◌+◌, ◌-◌, ◌*◌, ◌≤◌, List, [], ◌∷◌, ◌++◌, length, take, drop, replicate, ◌⊎◌, inl, inr, refl, sym, ap, subst, ◌∙◌, arith}
+use Rattle.std.proofs.Common.{◌≡◌, ℕ, zero, suc, ◌+◌, ◌-◌, ◌*◌, ◌≤◌, List, [], ◌∷◌, ◌++◌, length, take, drop, replicate, ◌⊎◌, inl, inr, refl}
+use Rattle.std.proofs.Common.{sym, ap, subst, ◌∙◌, arith}
 use lib.Seq.{paste}
 use mathlib.Core.List.{append_assoc}
 use Rattle.std.proofs.lemmas.List.{length-take-le, length-drop, length-replicate, take-take, take_all, drop-drop, take-append-le}
 use Rattle.std.proofs.lemmas.List.Edits.{drop-paste}
 use Rattle.std.proofs.Math.Seq.{drop-append_seam}
-use Rattle.bk_core.specs.Memory.{block_words, KeepsOthers, zeroed, slid}
+use Rattle.bk_object.specs.Limits.{words_of_block}
+use Rattle.bk_core.specs.Memory.{block_words, blocks_of_core, words_of_core, KeepsOthers, zeroed, slid}
 
 -- so many words of a list from a place on
 abbrev pub piece : List ℕ → ℕ → ℕ → List ℕ
@@ -52,48 +54,48 @@ piece-at d at s n in_d in_s =
     ∙ take-append-le n (take n s) _ (omega (arith, length-take-le n s in_s)) ∙ take-take n n s (omega arith)
 
 -- all blocks but those that were written keep their words
-pub keeps_others : (d s : List ℕ) (first count : ℕ) → 32 * first ≤ length d → 32 * count ≤ length s → KeepsOthers first count d (paste d (32 * first) s (32 * count))
+pub keeps_others : (d s : List ℕ) (first count : ℕ) → words_of_block * first ≤ length d → words_of_block * count ≤ length s → KeepsOthers first count d (paste d (words_of_block * first) s (words_of_block * count))
 keeps_others d s first count in_d in_s = record { others = by }
   where
-    by : (at n : ℕ) → (at + n ≤ first) ⊎ (first + count ≤ at) → block_words (paste d (32 * first) s (32 * count)) at n ≡ block_words d at n
-    by at n (inl le) = piece-below d (32 * first) s (32 * count) (32 * at) (32 * n) (omega (arith, le)) in_d
-    by at n (inr le) = piece-above d (32 * first) s (32 * count) (32 * at) (32 * n) (omega (arith, le)) in_d in_s
+    by : (at n : ℕ) → (at + n ≤ first) ⊎ (first + count ≤ at) → block_words (paste d (words_of_block * first) s (words_of_block * count)) at n ≡ block_words d at n
+    by at n (inl le) = piece-below d (words_of_block * first) s (words_of_block * count) (words_of_block * at) (words_of_block * n) (omega (arith, le)) in_d
+    by at n (inr le) = piece-above d (words_of_block * first) s (words_of_block * count) (words_of_block * at) (words_of_block * n) (omega (arith, le)) in_d in_s
 
 -- what is so of words in which so many blocks are zero, or have slid
 pub record Zeroed (words after : List ℕ) (first count : ℕ) : Type 0 where
-  pub zero : block_words after first count ≡ replicate (32 * count) 0
+  pub zero : block_words after first count ≡ replicate (words_of_block * count) 0
   pub others : KeepsOthers first count words after
 
-pub zeroing : (words after : List ℕ) (first count : ℕ) → length words ≡ 126976 → first + count ≤ 3968 → after ≡ zeroed words first count → Zeroed words after first count
+pub zeroing : (words after : List ℕ) (first count : ℕ) → length words ≡ words_of_core → first + count ≤ blocks_of_core → after ≡ zeroed words first count → Zeroed words after first count
 zeroing words after first count full inside is = subst (λ a. Zeroed words a first count) (sym is) (record {
-  zero = piece-at words (32 * first) zeros (32 * count) in_d in_s ∙ take_all (32 * count) zeros (omega (arith, length-replicate {A = ℕ} (32 * count) 0));
+  zero = piece-at words (words_of_block * first) zeros (words_of_block * count) in_d in_s ∙ take_all (words_of_block * count) zeros (omega (arith, length-replicate {A = ℕ} (words_of_block * count) 0));
   others = keeps_others words zeros first count in_d in_s;
 })
   where
     zeros : List ℕ
-    zeros = replicate (32 * count) 0
+    zeros = replicate (words_of_block * count) 0
 
-    in_d : 32 * first ≤ length words
+    in_d : words_of_block * first ≤ length words
     in_d = omega (arith, full, inside)
 
-    in_s : 32 * count ≤ length zeros
-    in_s = omega (arith, length-replicate {A = ℕ} (32 * count) 0)
+    in_s : words_of_block * count ≤ length zeros
+    in_s = omega (arith, length-replicate {A = ℕ} (words_of_block * count) 0)
 
 pub record Slid (words after : List ℕ) (from to count : ℕ) : Type 0 where
   pub there : block_words after to count ≡ block_words words from count
   pub others : KeepsOthers to count words after
 
-pub sliding : (words after : List ℕ) (from to count : ℕ) → length words ≡ 126976 → to ≤ from → from + count ≤ 3968 → after ≡ slid words from to count → Slid words after from to count
+pub sliding : (words after : List ℕ) (from to count : ℕ) → length words ≡ words_of_core → to ≤ from → from + count ≤ blocks_of_core → after ≡ slid words from to count → Slid words after from to count
 sliding words after from to count full down inside is = subst (λ a. Slid words a from to count) (sym is) (record {
-  there = piece-at words (32 * to) source (32 * count) in_d in_s;
+  there = piece-at words (words_of_block * to) source (words_of_block * count) in_d in_s;
   others = keeps_others words source to count in_d in_s;
 })
   where
     source : List ℕ
-    source = drop (32 * from) words
+    source = drop (words_of_block * from) words
 
-    in_d : 32 * to ≤ length words
+    in_d : words_of_block * to ≤ length words
     in_d = omega (arith, full, down, inside)
 
-    in_s : 32 * count ≤ length source
-    in_s = omega (arith, full, inside, length-drop (32 * from) words)
+    in_s : words_of_block * count ≤ length source
+    in_s = omega (arith, full, inside, length-drop (words_of_block * from) words)

@@ -1,15 +1,28 @@
 -- The physical words of core.
 use Rattle.std.specs.Prelude.{◌≡◌, ℕ, ◌+◌, ◌*◌, ◌/◌, ◌%◌, ◌≤◌, ◌⊎◌, ◌==◌, if◌then◌else◌, List, length, take, drop, replicate, slice_index_or, slice_set}
 use lib.Seq.{paste}
+use Rattle.bk_object.specs.Limits.{bytes_of_block, words_of_block}
 
--- 3,968 blocks of 32 words
+-- core has so many blocks
+abbrev pub blocks_of_core : ℕ
+blocks_of_core = 3968
+
+-- so many words
+abbrev pub words_of_core : ℕ
+words_of_core = words_of_block * blocks_of_core
+
+-- and so many bytes
+abbrev pub bytes_of_core : ℕ
+bytes_of_core = bytes_of_block * blocks_of_core
+
+-- the words of all blocks
 pub record Memory : Type 0 where
   pub words : List ℕ
-  pub full : length words ≡ 126976
+  pub full : length words ≡ words_of_core
 
 -- the words of so many blocks from a first one on
 abbrev pub block_words : List ℕ → (first count : ℕ) → List ℕ
-block_words words first count = take (32 * count) (drop (32 * first) words)
+block_words words first count = take (words_of_block * count) (drop (words_of_block * first) words)
 
 -- all blocks but so many from a first one on keep their words
 pub record KeepsOthers (first count : ℕ) (old new : List ℕ) : Type 0 where
@@ -37,8 +50,8 @@ with_byte words addr value = with_word words addr (word_with_byte (word_at words
 
 -- the words once so many blocks from a first one on are zero
 abbrev pub zeroed : List ℕ → (first count : ℕ) → List ℕ
-zeroed words first count = paste words (32 * first) (replicate (32 * count) 0) (32 * count)
+zeroed words first count = paste words (words_of_block * first) (replicate (words_of_block * count) 0) (words_of_block * count)
 
 -- the words once so many blocks stand a second time, from another block on, as they stood before
 abbrev pub slid : List ℕ → (from to count : ℕ) → List ℕ
-slid words from to count = paste words (32 * to) (drop (32 * from) words) (32 * count)
+slid words from to count = paste words (words_of_block * to) (drop (words_of_block * from) words) (words_of_block * count)

@@ -2,10 +2,21 @@
 
 ghost use Rattle.std.specs.Prelude.{◌≡◌, ℕ, ◌+◌, ◌*◌, ◌%◌, ◌<◌, ◌≤◌, length, drop, replicate, IfOk};
 ghost use lib.Seq.{paste};
+ghost use Rattle.bk_object.specs.Limits.{words_of_block};
+ghost use Rattle.bk_core.specs.Memory.{blocks_of_core, bytes_of_core, words_of_core};
 
 use bk_base::NoMemory;
 use std::alloc::Global;
 use std::marker::Model;
+
+/// How many blocks core has.
+pub const BLOCKS: u32 = 3968;
+
+/// How many words of 16 bits a block has.
+pub const WORDS_OF_BLOCK: u32 = 32;
+
+/// How many bytes a block has.
+pub const BYTES_OF_BLOCK: u32 = 2 * WORDS_OF_BLOCK;
 
 /// The 253,952 bytes of core: 3,968 blocks of 32 words of 16 bits.
 ///
@@ -14,7 +25,7 @@ use std::marker::Model;
 #[derive(Drop)]
 pub struct Core {
     words: Vec<u16>,
-    ghost full: { length words.items ≡ 126976 },
+    ghost full: { length words.items ≡ words_of_core },
 }
 
 impl Model for Core {
@@ -30,16 +41,16 @@ impl Core {
 
     /// A core in which each word is zero, or NoMemory.
     pub fn reserve(alloc: Global) -> Result<Core, NoMemory>
-        ensures { IfOk result (λ core. core.words ≡ replicate 126976 0) }
+        ensures { IfOk result (λ core. core.words ≡ replicate words_of_core 0) }
     {
-        let words = vec![in alloc; 0u16; 126976]?;
+        let words = vec![in alloc; 0u16; (BLOCKS * WORDS_OF_BLOCK) as usize]?;
         Ok(Core { words })
     }
 
     /// The word at an even address.
     pub fn word(&self, addr: u32) -> u16
         requires even { addr % 2 ≡ 0 }
-        requires inside { addr < 253952 }
+        requires inside { addr < bytes_of_core }
         ensures { result ≡ word_at self.now.words addr }
     {
         self.words[(addr / 2) as usize]
@@ -48,7 +59,7 @@ impl Core {
     /// The word at an even address becomes this one; all others stay.
     pub fn set_word(&mut self, addr: u32, value: u16)
         requires even { addr % 2 ≡ 0 }
-        requires inside { addr < 253952 }
+        requires inside { addr < bytes_of_core }
         ensures { self.new.words ≡ with_word self.old.words addr value }
     {
         self.words[(addr / 2) as usize] = value;
@@ -56,7 +67,7 @@ impl Core {
 
     /// The byte at an address.
     pub fn byte(&self, addr: u32) -> u8
-        requires inside { addr < 253952 }
+        requires inside { addr < bytes_of_core }
         ensures { result ≡ byte_at self.now.words addr }
     {
         let word = self.words[(addr / 2) as usize];
@@ -69,7 +80,7 @@ impl Core {
 
     /// The byte at an address becomes this one; all others stay, the other half of its word too.
     pub fn set_byte(&mut self, addr: u32, value: u8)
-        requires inside { addr < 253952 }
+        requires inside { addr < bytes_of_core }
         ensures { self.new.words ≡ with_byte self.old.words addr value }
     {
         let at = (addr / 2) as usize;
@@ -83,13 +94,13 @@ impl Core {
 
     /// All words of so many blocks from a first one on become zero; all others stay.
     pub fn zero(&mut self, first: u32, count: u32)
-        requires inside { first + count ≤ 3968 }
+        requires inside { first + count ≤ blocks_of_core }
         ensures words { self.new.words ≡ zeroed self.old.words first count }
-        ensures zero { block_words self.new.words first count ≡ replicate (32 * count) 0 }
+        ensures zero { block_words self.new.words first count ≡ replicate (words_of_block * count) 0 }
         ensures others { KeepsOthers first count self.old.words self.new.words }
     {
-        let first = first as usize * 32;
-        let count = count as usize * 32;
+        let first = first as usize * WORDS_OF_BLOCK as usize;
+        let count = count as usize * WORDS_OF_BLOCK as usize;
         zero_words(&mut self.words, first, count);
     }
 
@@ -97,14 +108,14 @@ impl Core {
     /// outside that place keep their words.
     pub fn slide(&mut self, from: u32, to: u32, count: u32)
         requires down { to ≤ from }
-        requires inside { from + count ≤ 3968 }
+        requires inside { from + count ≤ blocks_of_core }
         ensures words { self.new.words ≡ slid self.old.words from to count }
         ensures there { block_words self.new.words to count ≡ block_words self.old.words from count }
         ensures others { KeepsOthers to count self.old.words self.new.words }
     {
-        let from = from as usize * 32;
-        let to = to as usize * 32;
-        let count = count as usize * 32;
+        let from = from as usize * WORDS_OF_BLOCK as usize;
+        let to = to as usize * WORDS_OF_BLOCK as usize;
+        let count = count as usize * WORDS_OF_BLOCK as usize;
         copy_words(&mut self.words, from, to, count);
     }
 }

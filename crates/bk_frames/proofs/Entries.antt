@@ -1,8 +1,9 @@
 -- The maps of a list of segments.
-use Rattle.std.proofs.Common.{◌≡◌, ℕ, ◌+◌, ◌≤◌, ◌≢◌, inl, inr, Bool, true, false, cond, List, [], ◌∷◌, ◌++◌, map, Some, None, refl, sym, ap, subst, ◌∙◌, arith}
+use Rattle.std.proofs.Common.{◌≡◌, ℕ, ◌+◌, ◌≤◌, ◌≢◌, inl, inr, Bool, true, false, cond, List, [], ◌∷◌, ◌++◌, map, Some, None, is_eq, refl, sym}
+use Rattle.std.proofs.Common.{ap, subst, ◌∙◌, arith}
 use Rattle.std.specs.Prelude.{option_map}
 use Rattle.std.specs.Ordering.{nat_cmp, eq_by_cmp}
-use Rattle.std.specs.Cmp.{nat_cmp_total}
+use Rattle.std.specs.Cmp.{nat_cmp_total, tied_itself}
 use Rattle.std.specs.FinMap.{find, insert, from_entries, get-from_entries, from_entries_push, same_map, nat_cmp-IsAntisymmetric}
 use Rattle.std.proofs.lemmas.Option.{same_Some}
 use Rattle.bk_base.specs.Maps.{map_values, IsDistinct}
@@ -16,6 +17,9 @@ use Rattle.bk_frames.proofs.Stacked.{below_limit}
 -- numbers that compare as equal are the same
 pub same_number : (m n : ℕ) → eq_by_cmp nat_cmp m n ≡ true → m ≡ n
 same_number m n e = nat_cmp-IsAntisymmetric m n (tied (nat_cmp m n) e)
+
+pub number_itself : (n : ℕ) → eq_by_cmp nat_cmp n n ≡ true
+number_itself n = ap is_eq (tied_itself nat_cmp_total n)
 
 -- an entry for each segment
 abbrev pub each_of : {Y : Type 0} → (Extent → Y) → List Segment → List (ℕ × Y)

@@ -4,3 +4,4 @@ pub mod Entries
 pub mod Placed
 pub mod Forgotten
 pub mod Compacted
+mod ExampleLemmas

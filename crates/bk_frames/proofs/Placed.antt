@@ -1,8 +1,9 @@
 -- What is so once a segment is placed behind all others.
-use Rattle.std.proofs.Common.{◌≡◌, ℕ, ◌+◌, ◌-◌, ◌*◌, ◌≤◌, List, [], ◌∷◌, ◌++◌, map, length, replicate, Option, Some, None, refl, sym, ap, subst, ◌∙◌, arith, true, false, cond, is_eq, is_some}
+use Rattle.std.proofs.Common.{◌≡◌, ℕ, ◌+◌, ◌-◌, ◌*◌, ◌≤◌, List, [], ◌∷◌, ◌++◌, map, length, replicate, Option, Some, None, refl, sym, ap, subst}
+use Rattle.std.proofs.Common.{◌∙◌, arith, true, false, cond, is_some}
 use lib.Seq.{paste}
 use Rattle.std.specs.Ordering.{nat_cmp, eq_by_cmp}
-use Rattle.std.specs.Cmp.{nat_cmp_total, tied_itself}
+use Rattle.std.specs.Cmp.{nat_cmp_total}
 use Rattle.std.specs.FinMap.{find, get, insert, from_entries, get-from_entries, nat_cmp-IsAntisymmetric, get-insert, from_entries_push}
 use Rattle.std.proofs.lemmas.List.{length-replicate, take_all}
 use Rattle.bk_base.specs.Maps.{IsDistinct}
@@ -15,7 +16,8 @@ use Rattle.bk_frames.specs.Extents.{Extent, Standing, words_at, segments_of, siz
 use Rattle.bk_frames.specs.Segments.{IsStacked, IsFrames, compacted, total, words_after, entries_of, extents_of, extent_of}
 use Rattle.bk_frames.proofs.Stacked.{total_room}
 use Rattle.bk_frames.proofs.WordsKept.{slot_words, Kept, kept}
-use Rattle.bk_frames.proofs.Entries.{each_of, each_of-append, values-push, values-push-to, free-compacted, distinct-compacted, sizes-compacted, found_within, found_apart}
+use Rattle.bk_frames.proofs.Entries.{each_of, each_of-append, values-push, values-push-to, number_itself, free-compacted, distinct-compacted}
+use Rattle.bk_frames.proofs.Entries.{sizes-compacted, found_within, found_apart}
 
 -- each segment has a block, so there are no more segments than blocks; moving down keeps their number
 pub total_le : (at limit : ℕ) (ss : List Segment) → IsStacked at limit ss → length ss ≤ total ss
@@ -114,10 +116,7 @@ module _ (first size slots slot blocks end : ℕ) (old : List Segment) (words : 
         ap (λ es. get (from_entries {R = nat_cmp} es) slot) (each_of-append (λ e. e) (compacted first old) (last ∷ []))
         ∙ ap (λ m. get m slot) (from_entries_push nat_cmp_total nat_cmp-IsAntisymmetric (entries_of (compacted first old)) slot (extent_of last) (free-compacted slot first old free))
         ∙ get-insert nat_cmp_total (from_entries (entries_of (compacted first old))) slot (extent_of last) slot
-        ∙ ap (λ b. cond b (Some (extent_of last)) (get (from_entries {R = nat_cmp} (entries_of (compacted first old))) slot)) (by_itself slot)
-      where
-        by_itself : (n : ℕ) → eq_by_cmp nat_cmp n n ≡ true
-        by_itself n = ap is_eq (tied_itself nat_cmp_total n)
+        ∙ ap (λ b. cond b (Some (extent_of last)) (get (from_entries {R = nat_cmp} (entries_of (compacted first old))) slot)) (number_itself slot)
 
 -- the blocks that are taken
 pub total_is : (first size slots : ℕ) (segs : List Segment) → IsDistinct nat_cmp (entries_of segs) → taken_in (standing first size slots segs) ≡ total segs

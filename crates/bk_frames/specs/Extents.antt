@@ -5,12 +5,14 @@ use Rattle.std.specs.FinMap as finite
 use Rattle.std.specs.Ordering.{nat_cmp}
 use Rattle.bk_base.specs.Maps.{map_values}
 use Rattle.bk_core.specs.Memory.{block_words}
+use Rattle.bk_object.specs.Limits.{words_of_block}
 
 -- the first block, and how many
 pub record Extent : Type 0 where
   pub first : ℕ
   pub blocks : ℕ
 
+-- that two extents are alike or not
 abbrev pub extent_code : Coded Extent
 extent_code = code_by (ℕ × ℕ) (coded× coded_ℕ coded_ℕ) (λ e. (e.first, e.blocks)) (λ p. record { first = p.0; blocks = p.1 }) (λ _. refl)
 
@@ -21,6 +23,7 @@ pub record Standing : Type 0 where
   pub slots : ℕ
   pub extents : finite.FinMap nat_cmp Extent
 
+-- that two values of frames are alike or not
 abbrev pub standing_code : Coded Standing
 standing_code = code_by (ℕ × (ℕ × (ℕ × finite.FinMap nat_cmp Extent))) (coded× coded_ℕ (coded× coded_ℕ (coded× coded_ℕ (finite.code coded_ℕ extent_code)))) (λ s. (s.first, (s.blocks, (s.slots, s.extents)))) (λ p. record { first = p.0; blocks = p.1.0; slots = p.1.1.0; extents = p.1.1.1 }) (λ _. refl)
 
@@ -36,10 +39,11 @@ segments_of frames words = map_values (words_at words) frames.extents
 abbrev pub sizes_of : Standing → finite.FinMap nat_cmp ℕ
 sizes_of frames = map_values (λ e. e.blocks) frames.extents
 
--- how many blocks are taken, and how many are free
+-- how many blocks are taken
 abbrev pub taken_in : Standing → ℕ
 taken_in frames = sum_by (λ e. e.1.blocks) (finite.entries frames.extents)
 
+-- how many blocks are free
 abbrev pub free_in : Standing → ℕ
 free_in frames = frames.blocks - taken_in frames
 
@@ -57,8 +61,8 @@ KeepsRoom old new = (new.first ≡ old.first) × (new.blocks ≡ old.blocks) × 
 
 -- the words of core below the frames and above them are the same
 pub record SameOutside (frames : Standing) (old new : List ℕ) : Type 0 where
-  pub below : take (32 * frames.first) new ≡ take (32 * frames.first) old
-  pub above : drop (32 * (frames.first + frames.blocks)) new ≡ drop (32 * (frames.first + frames.blocks)) old
+  pub below : take (words_of_block * frames.first) new ≡ take (words_of_block * frames.first) old
+  pub above : drop (words_of_block * (frames.first + frames.blocks)) new ≡ drop (words_of_block * (frames.first + frames.blocks)) old
 
 -- two extents have no block in common
 abbrev pub AreApart : Extent → Extent → Type 0

@@ -3,17 +3,19 @@ use Rattle.std.specs.Prelude.{ℕ, ◌+◌, ◌≤◌, List, [], ◌∷◌, map}
 use Rattle.std.specs.FinMap as finite
 use Rattle.std.specs.Ordering.{nat_cmp}
 use Rattle.bk_base.specs.Maps.{IsDistinct}
-use Rattle.bk_core.specs.Memory.{slid}
+use Rattle.bk_core.specs.Memory.{blocks_of_core, slid}
 use Rattle.bk_frames.specs.declared.segments.Segment.{Segment}
 use Rattle.bk_frames.specs.Extents.{Extent}
 
--- the extent of a segment, and the map from slots to extents that a list stands for
+-- the extent of a segment
 abbrev pub extent_of : Segment → Extent
 extent_of s = record { first = s.first; blocks = s.blocks }
 
+-- the slots with their extents
 abbrev pub entries_of : List Segment → List (ℕ × Extent)
 entries_of segments = map (λ s. (s.slot, extent_of s)) segments
 
+-- the map that a list of segments stands for
 abbrev pub extents_of : List Segment → finite.FinMap nat_cmp Extent
 extents_of segments = finite.from_entries (entries_of segments)
 
@@ -46,4 +48,4 @@ pub record IsFrames (first size capacity : ℕ) (segments : List Segment) : Type
   pub stacked : IsStacked first (first + size) segments
   pub distinct : IsDistinct nat_cmp (entries_of segments)
   pub room : size ≤ capacity
-  pub inside : first + size ≤ 3968
+  pub inside : first + size ≤ blocks_of_core

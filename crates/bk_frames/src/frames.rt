@@ -2,6 +2,8 @@
 
 ghost use Rattle.std.specs.Prelude.{◌≡◌, ◌<◌, ◌≤◌, ◌*◌, replicate, not, ◌==◌, option_map, Some, IsNone, IfOk};
 ghost use Rattle.std.specs.FinMap as map;
+ghost use Rattle.bk_core.specs.Memory.{blocks_of_core};
+ghost use Rattle.bk_object.specs.Limits.{most_blocks, words_of_block};
 
 use crate::segments::{Segment, close_gaps, forget, look_up, place_last, total_blocks};
 use bk_base::NoMemory;
@@ -45,7 +47,7 @@ impl Frames {
 
     /// Frames over so many blocks of core from a first one on, for slots below a number; nothing is placed. Or NoMemory.
     pub fn reserve(alloc: Global, first: u32, blocks: u32, slots: u16) -> Result<Frames, NoMemory>
-        requires inside { first + blocks ≤ 3968 }
+        requires inside { first + blocks ≤ blocks_of_core }
         ensures { IfOk result (λ f. f ≡ record { first = first; blocks = blocks; slots = slots; extents = map.empty }) }
     {
         let segments = Vec::with_capacity(alloc, blocks as usize)?;
@@ -63,10 +65,10 @@ impl Frames {
     pub fn place(&mut self, core: &mut Core, slot: Slot, blocks: u8) -> u32
         requires known { slot.n < self.old.slots }
         requires some { 1 ≤ blocks }
-        requires few { blocks ≤ 128 }
+        requires few { blocks ≤ most_blocks }
         requires room { blocks ≤ free_in self.old }
         requires free { IsNone (map.get self.old.extents slot.n) }
-        ensures segments { segments_of self.new core.new.words ≡ map.insert (segments_of self.old core.old.words) slot.n (replicate (32 * blocks) 0) }
+        ensures segments { segments_of self.new core.new.words ≡ map.insert (segments_of self.old core.old.words) slot.n (replicate (words_of_block * blocks) 0) }
         ensures sizes { sizes_of self.new ≡ map.insert (sizes_of self.old) slot.n blocks }
         ensures here { map.get self.new.extents slot.n ≡ Some (record { first = result; blocks = blocks }) }
         ensures room { KeepsRoom self.old self.new }

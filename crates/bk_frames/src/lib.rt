@@ -1,12 +1,16 @@
 //! Frames: where the segments stand in a part of core, and their words when they move.
 //!
-//! Model: `specs/Extents.antt` (`Standing`, `segments_of`, `sizes_of`, `free_in`, `moved_down`, `SameOutside`, `IsApart`).
-//! Calls: `Frames::reserve`, `place`, `free`, `compact`, `extent`, `free_blocks`.
+//! Model: `specs/Extents.antt` (`Standing`, `segments_of`, `sizes_of`, `free_in`, `moved_down`, `SameOutside`, `IsApart`), `specs/Segments.antt` (the list of segments of the code), `specs/Example.antt` (two segments with a hole below each).
+//! Calls: `Frames::reserve`, `place`, `free`, `compact`, `extent`, `free_blocks`; `law_example`.
 //! Proved: no two segments share a block, a new segment is zero, all others keep their words whatever moves, and core outside the frames stays.
+//! Tested: that a segment of four blocks is placed in four holes, and that segments move down in the order in which they stand.
+//! Neither: nothing.
 //! Stands on: `bk_base`, `bk_core`, `bk_object`.
 #![tactic(auto)]
 
 mod frames;
+mod laws;
 mod segments;
 
 pub use frames::Frames;
+pub use laws::law_example;

@@ -5,7 +5,8 @@ ghost use Rattle.std.specs.FinMap as map;
 ghost use Rattle.std.specs.Ordering.{nat_cmp};
 ghost use Rattle.std.specs.Vec.{vec_capacity};
 ghost use lib.Seq.{paste};
-ghost use Rattle.bk_core.specs.Memory.{slid};
+ghost use Rattle.bk_core.specs.Memory.{blocks_of_core, slid};
+ghost use Rattle.bk_object.specs.Limits.{words_of_block};
 ghost use Rattle.bk_frames.specs.Segments.{IsStacked, IsFrames, moved_to, compacted, total, words_after, extents_of, entries_of};
 
 use bk_core::Core;
@@ -39,7 +40,7 @@ fn scan(segments: &[Segment], slot: u16) -> Option<(u32, u8)>
 
 // The sum of the segments' blocks.
 pub(crate) fn total_blocks(segments: &[Segment]) -> u32
-    requires { total segments.now ≤ 3968 }
+    requires { total segments.now ≤ blocks_of_core }
     ensures { result ≡ total segments.now }
 {
     let mut taken = 0;
@@ -70,7 +71,7 @@ pub(crate) fn place_last(
     requires some { 1 ≤ blocks }
     requires room { total segments.old.items + blocks ≤ size }
     ensures segments { segments.new.items ≡ compacted first segments.old.items ++ record { slot = slot; first = result; blocks = blocks } ∷ [] }
-    ensures words { core.new.words ≡ paste (words_after first segments.old.items core.old.words) (32 * result) (replicate (32 * blocks) 0) (32 * blocks) }
+    ensures words { core.new.words ≡ paste (words_after first segments.old.items core.old.words) (words_of_block * result) (replicate (words_of_block * blocks) 0) (words_of_block * blocks) }
     ensures end { result ≡ first + total segments.old.items }
     ensures capacity { vec_capacity segments.old ≤ vec_capacity segments.new }
 {
@@ -98,7 +99,7 @@ fn push_last(segments: &mut Vec<Segment>, segment: Segment)
 
 // Moves all segments down, so that there is no gap, and gives the first block behind them.
 pub(crate) fn close_gaps(segments: &mut Vec<Segment>, core: &mut Core, first: u32, size: u32) -> u32
-    requires inside { first + size ≤ 3968 }
+    requires inside { first + size ≤ blocks_of_core }
     requires stacked { IsStacked first (first + size) segments.old.items }
     ensures segments { segments.new.items ≡ compacted first segments.old.items }
     ensures words { core.new.words ≡ words_after first segments.old.items core.old.words }
@@ -110,7 +111,7 @@ pub(crate) fn close_gaps(segments: &mut Vec<Segment>, core: &mut Core, first: u3
 
 // Moves each segment of a slice down, the lowest first, so that there is no gap, and gives the first block behind them.
 fn compact_all(segments: &mut [Segment], core: &mut Core, first: u32, limit: u32) -> u32
-    requires inside { limit ≤ 3968 }
+    requires inside { limit ≤ blocks_of_core }
     requires stacked { IsStacked first limit segments.old }
     ensures segments { segments.new ≡ compacted first segments.old }
     ensures words { core.new.words ≡ words_after first segments.old core.old.words }
@@ -128,7 +129,7 @@ fn compact_all(segments: &mut [Segment], core: &mut Core, first: u32, limit: u32
 // The segment once it stands from a lower block on, or where it stands, with its words.
 fn moved(core: &mut Core, segment: Segment, to: u32) -> Segment
     requires down { to ≤ segment.first }
-    requires inside { segment.first + segment.blocks ≤ 3968 }
+    requires inside { segment.first + segment.blocks ≤ blocks_of_core }
     ensures segment { result ≡ moved_to to segment }
     ensures words { core.new.words ≡ slid core.old.words segment.first to segment.blocks }
 {

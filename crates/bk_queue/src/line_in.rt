@@ -1,15 +1,19 @@
 // The typed bytes of a line that nobody has taken.
 
+ghost use Rattle.bk_object.specs.Limits.{most_typed};
 ghost use Rattle.std.specs.Prelude.{◌≡◌, ◌≤◌, ◌↔◌, List, ℕ, [], ◌∷◌, ◌++◌, length, IsFalse, IsTrue, IsNone, IfSome};
 
 use arrayvec::ArrayVec;
 use std::marker::Model;
 
+/// How many typed bytes wait on a line at most.
+pub const TYPED_BYTES: usize = 64;
+
 /// At most 64 typed bytes. A clause sees them as a list, the oldest first.
 #[derive(Drop)]
 pub struct LineIn {
-    bytes: ArrayVec<u8, 64>,
-    ghost few: { length bytes.items ≤ 64 },
+    bytes: ArrayVec<u8, TYPED_BYTES>,
+    ghost few: { length bytes.items ≤ most_typed },
 }
 
 impl Model for LineIn {
@@ -32,7 +36,7 @@ impl LineIn {
 
     /// The byte waits behind all others; or, where 64 wait, it is lost and the answer is false.
     pub fn put(&mut self, byte: u8) -> bool
-        ensures full { IsFalse result ↔ (length self.old.bytes ≡ 64) }
+        ensures full { IsFalse result ↔ (length self.old.bytes ≡ most_typed) }
         ensures put { IsTrue result → self.new.bytes ≡ self.old.bytes ++ byte ∷ [] }
         ensures lost { IsFalse result → self.new ≡ self.old }
     {

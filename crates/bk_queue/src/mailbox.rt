@@ -1,10 +1,14 @@
 // The messages that wait in a mailbox, and how many were lost.
 
 ghost use Rattle.std.specs.Prelude.{◌≡◌, ◌<◌, ◌≤◌, ◌↔◌, List, ℕ, [], ◌∷◌, ◌++◌, length, IsFalse, IsTrue, IsNone, IfSome};
+ghost use Rattle.bk_object.specs.Limits.{most_lost, most_messages};
 ghost use Rattle.bk_queue.specs.Queues.{HaveFourWords};
 
 use arrayvec::ArrayVec;
 use std::marker::Model;
+
+/// How many messages wait in a mailbox at most.
+pub const MESSAGES: usize = 16;
 
 /// A message, and how many messages were lost since one was last taken.
 #[derive(Clone, Copy, PartialEq, Eq, Debug)]
@@ -18,11 +22,11 @@ pub struct Message {
 /// A clause sees the messages as a list, the oldest first, and the count.
 #[derive(Drop)]
 pub struct Mailbox {
-    messages: ArrayVec<[u16; 4], 16>,
+    messages: ArrayVec<[u16; 4], MESSAGES>,
     lost: u16,
-    ghost few: { length messages.items ≤ 16 },
+    ghost few: { length messages.items ≤ most_messages },
     ghost four: { HaveFourWords messages.items },
-    ghost counted: { lost < 65536 },
+    ghost counted: { lost ≤ most_lost },
 }
 
 impl Model for Mailbox {
@@ -48,7 +52,7 @@ impl Mailbox {
 
     /// The message waits behind all others; or, where 16 wait, it is lost and counted, and the answer is false.
     pub fn put(&mut self, words: [u16; 4]) -> bool
-        ensures full { IsFalse result ↔ (length self.old.waiting ≡ 16) }
+        ensures full { IsFalse result ↔ (length self.old.waiting ≡ most_messages) }
         ensures put { IsTrue result → (self.new.waiting ≡ self.old.waiting ++ words ∷ []) × (self.new.lost ≡ self.old.lost) }
         ensures lost { IsFalse result → (self.new.waiting ≡ self.old.waiting) × (self.new.lost ≡ counted_on self.old.lost) }
     {

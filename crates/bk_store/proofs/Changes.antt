@@ -12,6 +12,7 @@ use Rattle.std.proofs.lemmas.Option.{same_Some}
 use Rattle.bk_access.specs.Held.{modes_at}
 use Rattle.bk_access.proofs.HeldLemmas.{elsewhere-with_modes}
 use Rattle.bk_object.specs.Modes.{union, without}
+use Rattle.bk_object.specs.Rows.{most_subjects}
 use Rattle.bk_path.specs.Paths.{Path, is_same}
 use Rattle.bk_path.specs.Orders.{same_path, is_same-itself}
 use Rattle.bk_quota.specs.Charges.{passes}
@@ -62,7 +63,7 @@ module _ (tree : Objects) (held : Held) (keeps : HasSlots tree held) (path : Pat
       by None is = refl
       by (Some k) is = holds-removed subject slot s k modes held x ∙ ap (λ b. holds held s k x && not (((s == subject) && b) && has modes x)) (own_test p k is)
 
-  pub access-added : (subject : ℕ) (modes : Modes) → subject < 32 → access_of tree (added subject slot modes held) ≡ set.union (access_of tree held) (set.from_list (triples_of subject path modes))
+  pub access-added : (subject : ℕ) (modes : Modes) → subject < most_subjects → access_of tree (added subject slot modes held) ≡ set.union (access_of tree held) (set.from_list (triples_of subject path modes))
   access-added subject modes small = set.same_set triple_total triple_apart _ _ each
     where
       outside : (s : ℕ) → (s == subject) ≡ true → in_range s ≡ true

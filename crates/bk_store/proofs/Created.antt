@@ -1,8 +1,9 @@
 -- What is so once an object is created.
-use Rattle.std.proofs.Common.{List, ◌≡◌, ◌≢◌, ℕ, ◌+◌, ◌<◌, ◌≤◌, Bool, true, false, cond, ◌&&◌, [], length, length-set, Option, Some, None, refl, sym, ap, subst, ◌∙◌, arith, is_some, is_eq, Result, Err, ◌↔◌}
+use Rattle.std.proofs.Common.{List, ◌≡◌, ◌≢◌, ℕ, ◌+◌, ◌<◌, ◌≤◌, Bool, true, false, cond, ◌&&◌, [], length, length-set, Option, Some, None, refl}
+use Rattle.std.proofs.Common.{sym, ap, subst, ◌∙◌, arith, is_some, is_eq, Result, Err, ◌↔◌}
 use Rattle.std.specs.Prelude.{option_map, unwrap_or, slice_set, slice_index_or}
 use Rattle.std.specs.Ordering.{nat_cmp, eq_by_cmp}
-use Rattle.std.specs.Cmp.{nat_cmp_total, tied_itself}
+use Rattle.std.specs.Cmp.{nat_cmp_total}
 use Rattle.std.specs.FinMap as finite
 use Rattle.std.specs.FinSet as set
 use Rattle.std.proofs.lemmas.List.{get_or-set_same, get_or-set_other}
@@ -19,14 +20,15 @@ use Rattle.bk_path.specs.Orders.{path_total, path_apart, same_path, is_same-itse
 use Rattle.bk_quota.specs.Charges.{passes, quota_in}
 use Rattle.bk_access.specs.Held.{Held, holds}
 use Rattle.bk_frames.specs.Extents.{Extent, Standing, KeepsRoom, IsApart, free_in, segments_of, sizes_of, taken_in, words_at}
-use Rattle.bk_frames.proofs.Entries.{same_number}
-use Rattle.bk_state.specs.Changes.{new_contents}
+use Rattle.bk_frames.proofs.Entries.{number_itself, same_number}
+use Rattle.bk_state.specs.Contents.{new_contents}
 use Rattle.bk_state.specs.State.{Triple, Contents, Words}
 use Rattle.bk_state.proofs.Orders.{triple_total}
 use Rattle.bk_tree.specs.declared.place.Placed.{Placed}
 use Rattle.bk_tree.specs.Objects.{Objects, IsAt, facts_of}
 use Rattle.bk_store.specs.Stored.{Queue, OfMailbox, OfLine, Stored, Fits, IsCreated, IsFreeLine, contents_in, fresh, objects_of, waiting_in}
-use Rattle.bk_store.specs.Joined.{Tables, slot_in, is_held, access_of, entries_of, entry_of, new_words, no_mail, or_zero, queue_at, segment_blocks, size_of, store_of, with_new_input, with_some, HasExtents, HasSlots, IsStore}
+use Rattle.bk_store.specs.Joined.{Tables, slot_in, is_held, access_of, entries_of, entry_of, new_words, no_mail, or_zero, queue_at}
+use Rattle.bk_store.specs.Joined.{segment_blocks, size_of, store_of, with_new_input, with_some, HasExtents, HasSlots, IsStore}
 use Rattle.bk_store.proofs.Triples.{in_range, member, triple_apart}
 use Rattle.bk_store.proofs.Entries.{get-entry}
 use Rattle.bk_tree.specs.Kept.{Fits as FitsTree}
@@ -38,9 +40,6 @@ use Rattle.bk_store.proofs.Cells.{blocks-same, fits-same}
 use Rattle.bk_store.proofs.Contents.{none_of_map, some_mapped}
 use Rattle.bk_store.proofs.Looked.{has-none}
 use Rattle.bk_store.proofs.Written.{get-object, placed_object}
-
-number_itself : (n : ℕ) → eq_by_cmp nat_cmp n n ≡ true
-number_itself n = ap is_eq (tied_itself nat_cmp_total n)
 
 numbers_differ : (m n : ℕ) → m ≢ n → eq_by_cmp nat_cmp m n ≡ false
 numbers_differ m n apart = by (eq_by_cmp nat_cmp m n) refl

@@ -6,6 +6,7 @@ use Rattle.std.specs.Cmp.{nat_cmp_total, unsigned_tied}
 use Rattle.std.specs.FinMap as finite
 use Rattle.std.specs.FinSet as set
 use Rattle.std.proofs.lemmas.Bool.Decides.{nat_tests}
+use Rattle.std.proofs.Math.Bool.{and-false}
 use Rattle.bk_base.proofs.MapValues.{get-map_values as get-sizes}
 use Rattle.bk_base.proofs.Totals.{part, total_of}
 use Rattle.bk_level.specs.Levels.{Level}
@@ -22,7 +23,8 @@ use Rattle.bk_state.proofs.Orders.{triple_total}
 use Rattle.bk_tree.specs.declared.place.Placed.{Placed}
 use Rattle.bk_tree.specs.Objects.{Objects, IsAt, facts_of, without, HasNone}
 use Rattle.bk_store.specs.Stored.{Entry, Stored, without_group, without_one}
-use Rattle.bk_store.specs.Joined.{Tables, slot_in, is_held, access_of, entries_of, entry_of, queue_at, or_zero, segment_blocks, size_of, store_of, HasExtents, HasSlots, IsStore}
+use Rattle.bk_store.specs.Joined.{Tables, slot_in, is_held, access_of, entries_of, entry_of, queue_at, or_zero, segment_blocks, size_of}
+use Rattle.bk_store.specs.Joined.{store_of, HasExtents, HasSlots, IsStore}
 use Rattle.bk_store.proofs.Triples.{in_range, member, triple_apart, alike}
 use Rattle.bk_store.proofs.Entries.{get-entry, its_slot}
 use Rattle.bk_store.proofs.Changes.{own_test}
@@ -217,12 +219,8 @@ module _ (lines : ℕ) (tree : Objects) (held : Held) (tables : Tables) (keeps :
       still : (t : Triple) → is_held (without tree path) (cleared slot held) t ≡ (is_held tree held t && not (is_same t.1 path))
       still t = ap (passes (λ k. holds (cleared slot held) t.0 k t.2)) (slots-left t.1) ∙ by (slot_in tree t.1) refl (is_same t.1 path) refl
         where
-          none : (a : Bool) → false ≡ (a && false)
-          none true = refl
-          none false = refl
-
           by : (o : Option ℕ) → slot_in tree t.1 ≡ o → (b : Bool) → is_same t.1 path ≡ b → passes (λ k. holds (cleared slot held) t.0 k t.2) (cond (not b) o None) ≡ (passes (λ k. holds held t.0 k t.2) o && not b)
-          by o is true e = none (passes (λ k. holds held t.0 k t.2) o)
+          by o is true e = sym (and-false (passes (λ k. holds held t.0 k t.2) o))
           by None is false e = refl
           by (Some k) is false e = holds-cleared slot t.0 k held t.2 ∙ ap (λ b. holds held t.0 k t.2 && not b) (own_test tree held keeps.slots path slot at t.1 k is ∙ e)
 

@@ -17,6 +17,7 @@ use Rattle.bk_object.specs.Modes.{Mode, Read, Execute, Write, Append, has, modes
 use Rattle.bk_object.specs.declared.Facts.{Facts}
 use Rattle.bk_object.specs.declared.modes.Modes.{Modes}
 use Rattle.bk_object.proofs.ModeLemmas.{has-modes_where, same_modes}
+use Rattle.bk_object.specs.Rows.{most_subjects}
 use Rattle.bk_path.specs.Paths.{Path, path_cmp}
 use Rattle.bk_path.specs.Orders.{path_total, path_apart}
 use Rattle.bk_quota.specs.Charges.{passes}
@@ -27,7 +28,8 @@ use Rattle.bk_state.proofs.Orders.{triple_total}
 use Rattle.bk_tree.specs.declared.place.Placed.{Placed}
 use Rattle.bk_tree.specs.Objects.{Objects, facts_of, begun as begun_tree}
 use Rattle.bk_store.specs.Stored.{Entry, NoQueue, begun}
-use Rattle.bk_store.specs.Joined.{Tables, blocks_of, entries_of, entry_of, no_mail, queue_at, or_zero, segment_blocks, size_of, slot_in, access_of, store_of, IsStore}
+use Rattle.bk_store.specs.Joined.{Tables, blocks_of, entries_of, entry_of, no_mail, queue_at, or_zero, segment_blocks, size_of, slot_in}
+use Rattle.bk_store.specs.Joined.{access_of, store_of, IsStore}
 use Rattle.std.proofs.lemmas.List.Sums.{sum_by-cons}
 use Rattle.std.proofs.lemmas.Option.{same_Some}
 use Rattle.bk_store.proofs.Triples.{in_range, subject_in, member, triple_apart}
@@ -42,7 +44,7 @@ four_modes : (test : Mode → Bool) → (modes_where test).0 < 16
 four_modes test = omega (arith, bit_most (test Read) 1, bit_most (test Execute) 2, bit_most (test Write) 4, bit_most (test Append) 8)
 
 -- the modes at the slot are those by which the path is held
-pub held_there : (tree : Objects) (held : Held) (s slot : ℕ) (path : Path) (m : Modes) → s < 32 → slot_in tree path ≡ Some slot → m ≡ modes_at held s slot → m.0 < 16 →
+pub held_there : (tree : Objects) (held : Held) (s slot : ℕ) (path : Path) (m : Modes) → s < most_subjects → slot_in tree path ≡ Some slot → m ≡ modes_at held s slot → m.0 < 16 →
     m ≡ modes_where (λ x. set.contains (access_of tree held) (s, path, x))
 held_there tree held s slot path m small at is four = same_modes m _ four (four_modes (λ x. set.contains (access_of tree held) (s, path, x))) (λ x.
     ap (λ a. has a x) is

@@ -17,9 +17,13 @@ use Rattle.bk_state.specs.Start.{is_line}
 use Rattle.bk_state.specs.State.{State, facts_at, triple_cmp, Object, Contents, Words, find}
 use Rattle.bk_quota.specs.Charges.{level_in}
 use Rattle.bk_state.specs.Quota.{governing, quota_at, used, level_number as state_level_number}
-use Rattle.bk_state.specs.Changes.{without_group as without_state_group, changed_at as state_changed_at, changed_by as state_changed_by, with_row as with_state_row, with_triple, without_triples}
+use Rattle.bk_state.specs.AccessCalls.{with_triple, without_triples}
+use Rattle.bk_state.specs.RowCalls.{changed_at as state_changed_at, changed_by as state_changed_by, with_row as with_state_row}
+use Rattle.bk_state.specs.TreeCalls.{without_group as without_state_group}
 use Rattle.bk_state.proofs.Orders.{triple_total}
-use Rattle.bk_store.specs.Stored.{Entry, Queue, Stored, IsCreated, cell_of, changed_at, changed_by, contents_in, facts_in, fresh, kept, level_number, object_of, objects_of, triples_of, typing, waiting_in, with_given, with_held, with_input, with_queue, with_rescinded, with_row, with_typed, without_group, without_held, written}
+use Rattle.bk_store.specs.Stored.{Entry, Queue, Stored, IsCreated, cell_of, changed_at, changed_by, contents_in, facts_in, fresh, kept}
+use Rattle.bk_store.specs.Stored.{level_number, object_of, objects_of, triples_of, typing, waiting_in, with_given, with_held, with_input}
+use Rattle.bk_store.specs.Stored.{with_queue, with_rescinded, with_row, with_typed, without_group, without_held, written}
 use Rattle.bk_store.specs.Stands.{StandsFor}
 use Rattle.bk_store.proofs.Cells.{facts-same, level-same, usage-same, usage_in}
 use Rattle.bk_store.proofs.Triples.{triple_apart}

@@ -12,43 +12,12 @@ use Rattle.std.specs.Ordering.{eq_by_cmp}
 use Rattle.std.proofs.lemmas.Option.{same_Some}
 use Rattle.bk_path.specs.Orders.{path_total}
 use Rattle.bk_quota.specs.Charges.{passes}
-use Rattle.bk_store.specs.Stored.{Stored, Entry, NoQueue, HasDirectory, IsFreeLine, IsThere, begun, changed_at, changed_by, with_row, with_given, with_rescinded, without_held}
+use Rattle.bk_store.specs.Stored.{Stored, Entry, NoQueue, HasDirectory, IsFreeLine, IsThere, begun, changed_at, changed_by, with_row, with_given}
+use Rattle.bk_store.specs.Stored.{with_rescinded, without_held}
 use Rattle.bk_object.specs.Rows.{given, rescinded}
 use Rattle.bk_store.proofs.Entries.{there as is_there}
 use Rattle.bk_object.specs.declared.kind.Kind.{Kind}
 use Rattle.bk_object.specs.declared.kind.Kind.TheVariants.{Line}
-
--- root is there at first
-pub root_begun : {E : Type 0} (levels : List Level) (lines : ℕ) (root : Facts) (r : Result Stored E) (v : Stored) (path : Path) →
-    r ≡ Ok v → IfOk r (λ store. store ≡ begun levels lines root) → is_directory root.kind ≡ true → path ≡ [] → HasDirectory v path
-root_begun levels lines root r v path ok is kind at =
-    let same : v ≡ begun levels lines root = subst (λ (r : Result Stored _). IfOk r (λ store. store ≡ begun levels lines root)) ok is in
-    (λ i. passes (λ (e : Entry). is_directory e.facts.kind) (get (same i).objects (at i)))
-    ∙ ap (passes (λ (e : Entry). is_directory e.facts.kind)) (get-from_entries path_total (([], record { facts = root; extent = None; queue = NoQueue }) ∷ []) []) ∙ kind
-
--- a directory stays one under another row
-pub kept_directory : (v : Stored) (path : Path) (change : List Modes → List Modes) → HasDirectory v path → HasDirectory (changed_at path (with_row change) v) path
-kept_directory v path change h = by (get v.objects path) h
-  where
-    by : (o : Option Entry) → passes (λ (e : Entry). is_directory e.facts.kind) o ≡ true → HasDirectory (changed_by v path (with_row change) o) path
-    by None h = cc
-    by (Some e) h =
-        ap (passes (λ (e : Entry). is_directory e.facts.kind)) (get-insert path_total v.objects path (with_row change e) path
-        ∙ ap (λ b. cond b (Some (with_row change e)) (get v.objects path)) (ap is_eq (tied_itself path_total path))) ∙ h
-
-pub there : (v : Stored) (path : Path) → HasDirectory v path → IsThere v path
-there v path h = is_there (λ e. is_directory e.facts.kind) (get v.objects path) h
-
--- and where no object changes
-pub after_access : (old new : Stored) (path : Path) → new.objects ≡ old.objects → HasDirectory old path → HasDirectory new path
-after_access old new path is h = subst (λ m. passes (λ (e : Entry). is_directory e.facts.kind) (get m path) ≡ true) (sym is) h
-
-module _ (old new : Stored) (path : Path) (subject : ℕ) (modes : Modes) where
-  pub after_given : new ≡ with_given subject path modes old → HasDirectory old path → HasDirectory new path
-  after_given is h = subst (λ v. HasDirectory v path) (sym is) (kept_directory old path (given subject modes) h)
-
-  pub after_rescinded : new ≡ with_rescinded subject path modes old → HasDirectory old path → HasDirectory new path
-  after_rescinded is h = subst (λ v. HasDirectory v path) (sym is) (kept_directory (without_held subject path modes old) path (rescinded subject modes) h)
 
 -- ---- a store of root alone
 

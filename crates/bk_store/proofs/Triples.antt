@@ -1,5 +1,6 @@
 -- Which triples stand in the access set of a tree and an access table.
-use Rattle.std.proofs.Common.{◌≡◌, ℕ, zero, suc, ◌<◌, Bool, true, false, cond, ◌&&◌, ◌||◌, ◌==◌, List, [], ◌∷◌, map, Option, Some, None, refl, sym, ap, ◌∙◌, arith, is_some, is_eq, Equal}
+use Rattle.std.proofs.Common.{◌≡◌, ℕ, zero, suc, ◌<◌, Bool, true, false, cond, ◌&&◌, ◌||◌, ◌==◌, List, [], ◌∷◌, map, Option, Some, None, refl}
+use Rattle.std.proofs.Common.{sym, ap, ◌∙◌, arith, is_some, is_eq, Equal}
 use Rattle.std.specs.Prelude.{flat_map, filter, option_map}
 use Rattle.std.specs.List.{list_any}
 use Rattle.std.specs.Ordering.{eq_by_cmp, nat_cmp, ordering_then}
@@ -8,9 +9,11 @@ use Rattle.std.specs.FinMap as finite
 use Rattle.std.specs.FinSet as set
 use Rattle.std.specs.FinMap.{IsAntisymmetric}
 use Rattle.std.proofs.lemmas.Bool.Decides.{nat_tests}
+use Rattle.std.proofs.Math.Bool.{and-false}
 use Rattle.std.proofs.lemmas.List.Folds.{list_any-append}
 use Rattle.bk_object.specs.Modes.{Mode, Read, Execute, Write, Append, has, mode_number}
 use Rattle.bk_object.specs.declared.modes.Modes.{Modes}
+use Rattle.bk_object.specs.Rows.{most_subjects}
 use Rattle.bk_path.specs.Paths.{Path, path_cmp, is_same}
 use Rattle.bk_path.specs.Orders.{ties-same}
 use Rattle.bk_quota.specs.Charges.{passes}
@@ -57,11 +60,7 @@ any_filter f g (x ∷ xs) = by (g x) (any_filter f g xs)
     by false rest = rest
 
 any_left : {A : Type 0} (c : Bool) (f : A → Bool) (xs : List A) → list_any (λ x. c && f x) xs ≡ (c && list_any f xs)
-any_left c f [] = none c
-  where
-    none : (c : Bool) → false ≡ (c && false)
-    none true = refl
-    none false = refl
+any_left c f [] = sym (and-false c)
 any_left c f (x ∷ xs) = ap (λ b. (c && f x) || b) (any_left c f xs) ∙ spread c (f x) (list_any f xs)
   where
     spread : (c a b : Bool) → ((c && a) || (c && b)) ≡ (c && (a || b))
@@ -103,7 +102,7 @@ any_of_set m t u Append = one (has m Read) (has m Execute) (has m Write) (has m 
 
 -- the number is that of a subject
 abbrev pub in_range : ℕ → Bool
-in_range s = list_any (λ n. s == n) (below 32)
+in_range s = list_any (λ n. s == n) (below most_subjects)
 
 in_below : (n s : ℕ) → s < n → list_any (λ m. s == m) (below n) ≡ true
 in_below zero s h = absurd (omega (arith, h))
@@ -113,14 +112,14 @@ in_below (suc n) s h = by (s == n) refl (in_below n s)
     by true e rest = refl
     by false e rest = rest (grind (arith, nat_tests, e, h))
 
-pub subject_in : (s : ℕ) → s < 32 → in_range s ≡ true
-subject_in s h = in_below 32 s h
+pub subject_in : (s : ℕ) → s < most_subjects → in_range s ≡ true
+subject_in s h = in_below most_subjects s h
 
 any_triples : (tree : Objects) (s : ℕ) (p : Path) (x : Mode) → list_any (eq_by_cmp triple_cmp (s, p, x)) (all_triples tree) ≡ (in_range s && is_some (finite.get tree p))
 any_triples tree s p x =
-    any_flat (eq_by_cmp triple_cmp (s, p, x)) (λ t. flat_map (λ q. map (λ y. (t, q, y)) all_modes) (finite.keys tree)) (below 32)
-    ∙ any_same (λ t. list_any (eq_by_cmp triple_cmp (s, p, x)) (flat_map (λ q. map (λ y. (t, q, y)) all_modes) (finite.keys tree))) (λ t. (s == t) && is_some (finite.get tree p)) (below 32) of_subject
-    ∙ any_right (λ t. s == t) (is_some (finite.get tree p)) (below 32)
+    any_flat (eq_by_cmp triple_cmp (s, p, x)) (λ t. flat_map (λ q. map (λ y. (t, q, y)) all_modes) (finite.keys tree)) (below most_subjects)
+    ∙ any_same (λ t. list_any (eq_by_cmp triple_cmp (s, p, x)) (flat_map (λ q. map (λ y. (t, q, y)) all_modes) (finite.keys tree))) (λ t. (s == t) && is_some (finite.get tree p)) (below most_subjects) of_subject
+    ∙ any_right (λ t. s == t) (is_some (finite.get tree p)) (below most_subjects)
   where
     of_path : (t : ℕ) (q : Path) → list_any (eq_by_cmp triple_cmp (s, p, x)) (map (λ y. (t, q, y)) all_modes) ≡ ((s == t) && is_same p q)
     of_path t q =

@@ -17,7 +17,8 @@ use Rattle.bk_access.specs.Held.{Held}
 use Rattle.bk_state.specs.Start.{is_line}
 use Rattle.bk_tree.specs.declared.place.Placed.{Placed}
 use Rattle.bk_tree.specs.Objects.{Objects}
-use Rattle.bk_store.specs.Stored.{Waiting, OfMailbox, OfLine, changed_at, kept, number_of, typing, with_input, with_mail, with_queue, with_typed}
+use Rattle.bk_state.specs.QueueCalls.{line_of}
+use Rattle.bk_store.specs.Stored.{Waiting, OfMailbox, OfLine, changed_at, kept, typing, with_input, with_mail, with_queue, with_typed}
 use Rattle.bk_store.specs.Joined.{Tables, access_of, entries_of, entry_of, no_mail, queue_at, store_of, IsStore}
 use Rattle.bk_store.proofs.Entries.{as_stored, get-entry, one-changed}
 
@@ -28,13 +29,13 @@ with_mailboxes tables mailboxes = record { frames = tables.frames; mailboxes = m
 abbrev pub with_inputs : Tables → List (List ℕ) → Tables
 with_inputs tables inputs = record { frames = tables.frames; mailboxes = tables.mailboxes; inputs = inputs }
 
-pub some_number : (kind : Kind) → is_any_line kind ≡ true → is_some (number_of kind) ≡ true
+pub some_number : (kind : Kind) → is_any_line kind ≡ true → is_some (line_of kind) ≡ true
 some_number Directory h = cc
 some_number Segment h = cc
 some_number Mailbox h = cc
 some_number (Line n) h = refl
 
-pub line_kind : (kind : Kind) (n : ℕ) → number_of kind ≡ Some n → kind ≡ Line n
+pub line_kind : (kind : Kind) (n : ℕ) → line_of kind ≡ Some n → kind ≡ Line n
 line_kind Directory n h = cc
 line_kind Segment n h = cc
 line_kind Mailbox n h = cc

@@ -1,5 +1,6 @@
 -- What is so once a word of a segment is written.
-use Rattle.std.proofs.Common.{◌≡◌, ℕ, ◌+◌, ◌-◌, ◌*◌, ◌/◌, ◌%◌, ◌<◌, ◌≤◌, ◌≢◌, inl, inr, Bool, true, false, cond, ◌&&◌, is_some, List, take, drop, slice_set, Option, Some, None, refl, sym, ap, ◌∙◌, arith}
+use Rattle.std.proofs.Common.{◌≡◌, ℕ, ◌+◌, ◌-◌, ◌*◌, ◌/◌, ◌%◌, ◌<◌, ◌≤◌, ◌≢◌, inl, inr, Bool, true, false, cond, ◌&&◌, is_some, List, take, drop}
+use Rattle.std.proofs.Common.{slice_set, Option, Some, None, refl, sym, ap, ◌∙◌, arith}
 use Rattle.std.specs.Prelude.{option_map, slice_index_or, nat_lt}
 use Rattle.std.specs.FinMap as finite
 use Rattle.std.proofs.lemmas.List.{drop-set-add, drop-set-lt, take-set-le, get_or-take, get_or-drop}
@@ -14,7 +15,7 @@ use Rattle.bk_path.specs.Orders.{path_total, path_apart, same_path, is_same-itse
 use Rattle.bk_access.specs.Held.{Held}
 use Rattle.bk_frames.specs.Extents.{Extent, words_at, AreApart}
 use Rattle.bk_state.specs.State.{Object, Words}
-use Rattle.bk_state.specs.Answers.{with_word}
+use Rattle.bk_state.specs.Contents.{with_word}
 use Rattle.bk_tree.specs.declared.place.Placed.{Placed}
 use Rattle.bk_tree.specs.Objects.{Objects, IsAt}
 use Rattle.bk_store.specs.Stored.{Entry, Queue, contents_in, object_of, objects_of, word_at, word_of, written, written_by}

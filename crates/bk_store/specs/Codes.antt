@@ -26,8 +26,10 @@ queue_of-parts_of NoQueue = refl
 queue_of-parts_of (OfMailbox waiting) = refl
 queue_of-parts_of (OfLine bytes) = refl
 
+-- that what waits in two objects is alike or not
 abbrev pub queue_code : Coded Queue
 queue_code = code_by Parts (coded⊎ coded_unit (coded⊎ (coded× (coded_list (coded_list coded_ℕ)) coded_ℕ) (coded_list coded_ℕ))) parts_of queue_of queue_of-parts_of
 
+-- that two objects are alike or not
 abbrev pub entry_code : Coded Entry
 entry_code = code_by (Facts × (Option Extent × Queue)) (coded× facts.the_row.coded (coded× (coded_option extent_code) queue_code)) (λ e. (e.facts, (e.extent, e.queue))) (λ p. record { facts = p.0; extent = p.1.0; queue = p.1.1 }) (λ _. refl)

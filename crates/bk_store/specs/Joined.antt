@@ -1,6 +1,7 @@
 -- The tables of a store, taken together: the tree names objects by their paths, all other tables by their slots, and
 -- typed bytes by the number of their line.
-use Rattle.std.specs.Prelude.{◌≡◌, ◌≢◌, ℕ, zero, suc, ◌+◌, ◌≤◌, ◌<◌, Bool, List, [], ◌∷◌, length, map, flat_map, sum_by, Option, Some, None, option_map, slice_index_or, slice_set, replicate, ◌*◌}
+use Rattle.std.specs.Prelude.{◌≡◌, ◌≢◌, ℕ, zero, suc, ◌+◌, ◌≤◌, ◌<◌, Bool, List, [], ◌∷◌, length, map, flat_map, sum_by, Option, Some, None}
+use Rattle.std.specs.Prelude.{option_map, slice_index_or, slice_set, replicate, ◌*◌}
 use Rattle.std.specs.FinMap as finite
 use Rattle.std.specs.FinSet as set
 use Rattle.std.specs.Ordering.{nat_cmp}
@@ -12,7 +13,10 @@ use Rattle.bk_access.specs.Held.{Held, holds, modes_at}
 use Rattle.bk_object.specs.declared.Facts.{Facts}
 use Rattle.bk_object.specs.declared.kind.Kind.{Kind}
 use Rattle.bk_object.specs.declared.kind.Kind.TheVariants.{Directory, Segment, Mailbox, Line}
+use Rattle.bk_object.specs.Limits.{largest_quota, words_of_block}
 use Rattle.bk_object.specs.Modes.{no_modes}
+use Rattle.bk_object.specs.Rows.{most_subjects}
+use Rattle.bk_core.specs.Memory.{blocks_of_core}
 use Rattle.bk_frames.specs.Extents.{Extent, Standing, sizes_of, taken_in, IsApart, AreApart}
 use Rattle.bk_queue.specs.Queues.{Mail, Typed}
 use Rattle.bk_tree.specs.declared.place.Placed.{Placed}
@@ -33,9 +37,9 @@ abbrev pub below : ℕ → List ℕ
 below zero = []
 below (suc n) = n ∷ below n
 
--- each of 32 subjects, each object that is there, each mode
+-- each subject, each object that is there, each mode
 abbrev pub all_triples : Objects → List Triple
-all_triples tree = flat_map (λ subject. flat_map (λ path. map (λ mode. (subject, path, mode)) all_modes) (finite.keys tree)) (below 32)
+all_triples tree = flat_map (λ subject. flat_map (λ path. map (λ mode. (subject, path, mode)) all_modes) (finite.keys tree)) (below most_subjects)
 
 -- who holds what, by paths
 abbrev pub access_of : Objects → Held → set.FinSet triple_cmp
@@ -47,15 +51,19 @@ pub record Tables : Type 0 where
   pub mailboxes : List Waiting
   pub inputs : List (List ℕ)
 
+-- what waits in a mailbox
 abbrev pub waiting_of : Mail → Waiting
 waiting_of mail = record { messages = mail.waiting; lost = mail.lost }
 
+-- what waits on a line
 abbrev pub bytes_of : Typed → List ℕ
 bytes_of typed = typed.bytes
 
+-- the tables of contents of the code
 abbrev pub tables_of : Standing → List Mail → List Typed → Tables
 tables_of frames mailboxes inputs = record { frames = frames; mailboxes = map waiting_of mailboxes; inputs = map bytes_of inputs }
 
+-- a mailbox in which nothing waits
 abbrev pub no_mail : Waiting
 no_mail = record { messages = []; lost = 0 }
 
@@ -66,6 +74,7 @@ queue_at tables slot Segment = NoQueue
 queue_at tables slot Mailbox = OfMailbox (slice_index_or tables.mailboxes slot no_mail)
 queue_at tables slot (Line n) = OfLine (slice_index_or tables.inputs n [])
 
+-- what the tables have of an object
 abbrev pub entry_of : Tables → Placed → Entry
 entry_of tables placed = record {
   facts = placed.facts;
@@ -73,9 +82,11 @@ entry_of tables placed = record {
   queue = queue_at tables placed.slot placed.facts.kind;
 }
 
+-- what they have of all objects
 abbrev pub entries_of : Objects → Tables → finite.FinMap path_cmp Entry
 entries_of tree tables = map_values (entry_of tables) tree
 
+-- the store that all tables stand for
 abbrev pub store_of : List Level → (lines : ℕ) → Objects → Held → Tables → Stored
 store_of levels lines tree held tables = record {
   levels = levels;
@@ -101,16 +112,18 @@ blocks_of Segment blocks = Some blocks
 blocks_of Mailbox blocks = None
 blocks_of (Line n) blocks = None
 
+-- the blocks of the object, if it is a segment
 abbrev pub segment_blocks : Facts → Option ℕ
 segment_blocks facts = blocks_of facts.kind facts.blocks
 
+-- the number, or 0
 abbrev pub or_zero : Option ℕ → ℕ
 or_zero None = 0
 or_zero (Some n) = n
 
 -- so many blocks of words that are zero
 abbrev pub zeros_of : Option ℕ → Option (List ℕ)
-zeros_of blocks = option_map (λ n. replicate (32 * n) 0) blocks
+zeros_of blocks = option_map (λ n. replicate (words_of_block * n) 0) blocks
 
 -- the words of a new object
 abbrev pub new_words : Facts → Option (List ℕ)
@@ -132,14 +145,19 @@ with_new_input (Line n) inputs = slice_set inputs n []
 abbrev pub size_of : Facts → ℕ
 size_of facts = or_zero (segment_blocks facts)
 
--- a segment has its blocks at its slot, and nothing stands for all else; segments stand in blocks 64 to 3,967, apart
+-- so many blocks of core are the kernel's; the others are as many as the largest quota
+abbrev pub kernel_blocks : ℕ
+kernel_blocks = 64
+
+-- a segment has its blocks at its slot, and nothing stands for all else; segments stand in the blocks of core above
+-- the kernel's, apart
 pub record HasExtents (tree : Objects) (slots : ℕ) (frames : Standing) : Type 0 where
   pub sizes : (p : Path) (a : Placed) → finite.get tree p ≡ Some a → finite.get (sizes_of frames) a.slot ≡ segment_blocks a.facts
   pub unowned : (slot : ℕ) → ((p : Path) → slot_in tree p ≢ Some slot) → finite.get (sizes_of frames) slot ≡ None
   pub taken : taken_in frames ≡ sum_by (λ e. size_of e.1.facts) (finite.entries tree)
   pub apart : IsApart frames
-  pub first : frames.first ≡ 64
-  pub blocks : frames.blocks ≡ 3904
+  pub first : frames.first ≡ kernel_blocks
+  pub blocks : frames.blocks ≡ largest_quota
   pub places : frames.slots ≡ slots
 
 -- there is a mailbox for each slot and a list of bytes for each line; a line is below the number of lines, and no two
@@ -150,6 +168,7 @@ pub record HasQueues (lines : ℕ) (tree : Objects) (slots : ℕ) (tables : Tabl
   pub within : (p : Path) (a : Placed) (n : ℕ) → finite.get tree p ≡ Some a → a.facts.kind ≡ Line n → n < lines
   pub own : (p q : Path) (a b : Placed) (n : ℕ) → finite.get tree p ≡ Some a → finite.get tree q ≡ Some b → a.facts.kind ≡ Line n → b.facts.kind ≡ Line n → p ≡ q
 
+-- what a store keeps
 pub record IsStore (lines : ℕ) (tree : Objects) (held : Held) (tables : Tables) : Type 0 where
   pub slots : HasSlots tree held
   pub extents : HasExtents tree held.slots tables.frames
@@ -168,7 +187,7 @@ FitsKind (Line n) blocks extent queue = (extent ≡ None) × ((bytes : List ℕ)
 abbrev pub HaveKinds : Stored → Type 0
 HaveKinds v = (path : Path) (e : Entry) → finite.get v.objects path ≡ Some e → FitsKind e.facts.kind e.facts.blocks e.extent e.queue
 
--- segments stand within blocks 64 to 3,967, and no two have a block in common
+-- segments stand within the blocks of core above the kernel's, and no two have a block in common
 pub record AreExtentsApart (v : Stored) : Type 0 where
-  pub within : (path : Path) (e : Extent) → extent_in v path ≡ Some e → (64 ≤ e.first) × (e.first + e.blocks ≤ 3968)
+  pub within : (path : Path) (e : Extent) → extent_in v path ≡ Some e → (kernel_blocks ≤ e.first) × (e.first + e.blocks ≤ blocks_of_core)
   pub apart : (p q : Path) (e f : Extent) → extent_in v p ≡ Some e → extent_in v q ≡ Some f → p ≢ q → AreApart e f

@@ -1,4 +1,11 @@
+pub mod Entries
+pub mod Holding
+pub mod Changes
+pub mod Cells
+pub mod Words
+pub mod Queues
 pub mod Stored
 pub mod Codes
 pub mod Joined
 pub mod Stands
+pub mod Example

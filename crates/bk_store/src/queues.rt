@@ -2,7 +2,7 @@
 
 ghost use Rattle.std.specs.Prelude.{◌≡◌, ◌<◌, ℕ, [], length, map, replicate, slice_set, slice_index_or, IfOk};
 ghost use Rattle.bk_object.specs.declared.kind.Kind.TheVariants.{Line};
-ghost use Rattle.bk_store.specs.Stored.{first_of, kept, oldest, received, sent, without_first};
+ghost use Rattle.bk_store.specs.Stored.{first_of, has_place, kept, oldest, received, sent, without_first};
 ghost use Rattle.bk_store.specs.Joined.{bytes_of, no_mail, waiting_of, with_new_input};
 
 use bk_base::NoMemory;
@@ -39,18 +39,20 @@ pub(crate) fn empty_inputs(alloc: Global, lines: u8) -> Result<Vec<LineIn>, NoMe
 }
 
 // The message goes to the mailbox of the slot.
-pub(crate) fn put_at(mailboxes: &mut Vec<Mailbox>, slot: Slot, words: [u16; 4])
+pub(crate) fn put_at(mailboxes: &mut Vec<Mailbox>, slot: Slot, words: [u16; 4]) -> bool
     requires { slot.n < length mailboxes.old.items }
-    ensures { map waiting_of mailboxes.new.items ≡ slice_set (map waiting_of mailboxes.old.items) slot.n (sent words (slice_index_or (map waiting_of mailboxes.old.items) slot.n no_mail)) }
+    ensures kept { result ≡ has_place (slice_index_or (map waiting_of mailboxes.old.items) slot.n no_mail) }
+    ensures rest { map waiting_of mailboxes.new.items ≡ slice_set (map waiting_of mailboxes.old.items) slot.n (sent words (slice_index_or (map waiting_of mailboxes.old.items) slot.n no_mail)) }
 {
-    put(&mut mailboxes[slot.n as usize], words);
+    put(&mut mailboxes[slot.n as usize], words)
 }
 
-// The message goes to the mailbox, and is lost where 16 wait.
-fn put(mailbox: &mut Mailbox, words: [u16; 4])
-    ensures { waiting_of mailbox.new ≡ sent words (waiting_of mailbox.old) }
+// The message goes to the mailbox, and is lost where 16 wait; whether it is kept.
+fn put(mailbox: &mut Mailbox, words: [u16; 4]) -> bool
+    ensures kept { result ≡ has_place (waiting_of mailbox.old) }
+    ensures rest { waiting_of mailbox.new ≡ sent words (waiting_of mailbox.old) }
 {
-    let _ = mailbox.put(words);
+    mailbox.put(words)
 }
 
 // The oldest message of the slot's mailbox, which waits no longer.

@@ -1,13 +1,22 @@
 // The tables as one store.
 
-ghost use Rattle.std.specs.Prelude.{◌≡◌, ◌≢◌, Err, IsNone, OnErr, OnOk, ◌<◌, ◌≤◌, ◌*◌, ◌/◌, ◌%◌, ◌↔◌, [], true, false, length, option_map, slice_get, take, IfOk, IsSome};
+ghost use Rattle.std.specs.Prelude.{◌≡◌, ◌≢◌, Err, IsNone, OnErr, OnOk, ◌<◌, ◌≤◌, ◌*◌, ◌/◌, ◌%◌, ◌↔◌, [], true, false, length, option_map};
+ghost use Rattle.std.specs.Prelude.{slice_get, take, IfOk, IsSome};
 ghost use Rattle.std.specs.FinMap as map;
 ghost use Rattle.bk_object.specs.Kinds.{is_directory};
 ghost use Rattle.bk_frames.specs.Extents.{free_in, segments_of, sizes_of, IsApart, KeepsRoom};
+ghost use Rattle.bk_access.specs.Held.{cleared};
+ghost use Rattle.bk_level.specs.Levels.{most_levels};
+ghost use Rattle.bk_object.specs.Limits.{largest_quota, words_of_block};
+ghost use Rattle.bk_object.specs.Rows as rows;
 ghost use Rattle.bk_path.specs.Paths.{parent};
+ghost use Rattle.bk_state.specs.QueueCalls as queue_calls;
 ghost use Rattle.bk_tree.specs.Kept.{HasBlocks, IsFit};
-ghost use Rattle.bk_store.specs.Stored.{begun, byte_in, cell_of, extent_in, facts_in, level_number, message_in, modes_held, number_of, objects_of, with_given, with_held, with_message, with_rescinded, with_typed, without_byte, without_group, without_held, without_message, word_at, written, Fits, HasDirectory, HasLine, HasMailbox, HasOffset, HasSegment, IsCreated, IsFreeLine, IsOneLess, IsThere};
-ghost use Rattle.bk_store.specs.Joined.{blocks_of, or_zero, with_some, zeros_of, AreExtentsApart, HaveKinds};
+ghost use Rattle.bk_store.specs.Stored.{begun, byte_in, cell_of, extent_in, facts_in, has_place_in, level_number, message_in, modes_held, objects_of};
+ghost use Rattle.bk_store.specs.Stored.{with_given, with_held, with_message, with_rescinded, with_typed, without_byte, without_group};
+ghost use Rattle.bk_store.specs.Stored.{without_held, without_message, word_at, written, Fits, HasDirectory, HasLine, HasMailbox, HasOffset};
+ghost use Rattle.bk_store.specs.Stored.{HasSegment, IsCreated, IsFreeLine, IsOneLess, IsThere};
+ghost use Rattle.bk_store.specs.Joined.{blocks_of, kernel_blocks, or_zero, with_some, zeros_of, AreExtentsApart, HaveKinds};
 
 use crate::queues::{
     clear_input, clear_mailbox, empty_inputs, empty_mailboxes, put_at, take_at, take_typed, type_at,
@@ -15,10 +24,10 @@ use crate::queues::{
 use bitflags::Flags;
 use bk_access::Access;
 use bk_base::NoMemory;
-use bk_core::Core;
+use bk_core::{BLOCKS, BYTES_OF_BLOCK, Core};
 use bk_frames::Frames;
 use bk_level::{Level, LevelTable};
-use bk_object::{Facts, Kind, Modes, Slot};
+use bk_object::{Facts, Kind, Modes, Row, Slot};
 use bk_path::Path;
 use bk_queue::{LineIn, Mailbox, Message};
 use bk_quota::Cell;
@@ -26,12 +35,15 @@ use bk_tree::{Tree, TreeNo};
 use std::alloc::Global;
 use std::marker::Model;
 
+/// How many blocks of core, the first ones, are the kernel's.
+pub const KERNEL_BLOCKS: u32 = 64;
+
 /// The objects of a system with their contents, what each grants to whom, and the current access set.
 ///
 /// A clause sees the list of levels, the number of lines, the map from paths to objects, and the set of subject, path
 /// and mode. An object has its facts, where its words stand in core if it is a segment, and what waits in it. The words
-/// themselves are those of the core that a call is given, always the same one: blocks 64 to 3,967 of it are the
-/// store's. Subjects are 0 to 31. All memory is taken by `reserve`.
+/// themselves are those of the core that a call is given, always the same one: its blocks above the kernel's are the
+/// store's. Subjects are below `MOST_SUBJECTS`. All memory is taken by `reserve`.
 #[derive(Drop)]
 pub struct Store {
     levels: LevelTable,
@@ -73,14 +85,14 @@ impl Store {
     ) -> Result<Store, NoMemory>
         requires directory { is_directory root.kind ≡ true }
         requires blocks { root.blocks ≡ 0 }
-        requires quota { (1 ≤ root.quota) × (root.quota ≤ 3904) }
+        requires quota { (1 ≤ root.quota) × (root.quota ≤ largest_quota) }
         requires level { root.level < length levels }
         ensures { IfOk result (λ store. store ≡ begun levels lines root) }
     {
         let slots = root.quota;
         let tree = Tree::reserve(alloc, slots, root)?;
         let access = Access::reserve(alloc, slots)?;
-        let frames = Frames::reserve(alloc, 64, 3904, slots)?;
+        let frames = Frames::reserve(alloc, KERNEL_BLOCKS, BLOCKS - KERNEL_BLOCKS, slots)?;
         let mailboxes = empty_mailboxes(alloc, slots)?;
         let inputs = empty_inputs(alloc, lines)?;
         Ok(Store {
@@ -106,7 +118,7 @@ impl Store {
 
     /// The modes by which the subject holds the object at the path now: none where no object is there.
     pub fn held(&self, subject: u8, path: Path) -> Modes
-        requires { subject < 32 }
+        requires { subject < rows.most_subjects }
         ensures { result ≡ modes_held self.now subject path }
     {
         match self.tree.find(path) {
@@ -117,7 +129,7 @@ impl Store {
 
     /// The subject holds the object at the path by these modes too. All else stays.
     pub fn hold(&mut self, subject: u8, path: Path, modes: Modes)
-        requires subject { subject < 32 }
+        requires subject { subject < rows.most_subjects }
         requires there { IsThere self.old path }
         ensures { self.new ≡ with_held subject path modes self.old }
     {
@@ -128,7 +140,7 @@ impl Store {
     /// The subject no longer holds the object at the path by these modes: nothing changes where no object is there, or of
     /// modes by which it isn't held. All else stays.
     pub fn release(&mut self, subject: u8, path: Path, modes: Modes)
-        requires { subject < 32 }
+        requires { subject < rows.most_subjects }
         ensures { self.new ≡ without_held subject path modes self.old }
     {
         if let Some(place) = self.tree.find(path) {
@@ -138,20 +150,20 @@ impl Store {
 
     /// The row of the object at the path grants the subject these modes too. All else stays.
     pub fn give(&mut self, path: Path, subject: u8, modes: Modes)
-        requires subject { subject < 32 }
+        requires subject { subject < rows.most_subjects }
         requires there { IsThere self.old path }
         ensures { self.new ≡ with_given subject path modes self.old }
     {
         let slot = self.tree.find(path).unwrap();
-        let mut row = self.tree.facts(slot).row;
-        row.add(subject, modes);
+        let held = self.tree.facts(slot).row;
+        let row = given(held, subject, modes);
         self.tree.set_row(slot, row);
     }
 
     /// The row of the object at the path no longer grants the subject these modes, and the subject no longer holds the
     /// object by them (MTR-2997). All else stays.
     pub fn rescind(&mut self, path: Path, subject: u8, modes: Modes)
-        requires subject { subject < 32 }
+        requires subject { subject < rows.most_subjects }
         requires there { IsThere self.old path }
         ensures { self.new ≡ with_rescinded subject path modes self.old }
     {
@@ -163,7 +175,7 @@ impl Store {
     }
 
     /// A new object with these facts is at the path: a segment whose words are zero, a mailbox or a line in which nothing
-    /// waits. Taken goes before Quota, and where no object is created nothing changes. The words of core below block 64
+    /// waits. Taken goes before Quota, and where no object is created nothing changes. The words of the kernel's blocks
     /// stay in any case.
     pub fn create(&mut self, core: &mut Core, path: Path, facts: Facts) -> Result<(), TreeNo>
         requires below_root { path ≢ [] }
@@ -175,7 +187,7 @@ impl Store {
         ensures err { OnErr result ((self.new ≡ self.old) × (core.new ≡ core.old)) }
         ensures taken { (result ≡ Err TreeNo.Taken) ↔ IsThere self.old path }
         ensures quota { (result ≡ Err TreeNo.Quota) ↔ (IsNone (map.get self.old.objects path) × ¬ Fits self.old path facts) }
-        ensures kernel { take 2048 core.new.words ≡ take 2048 core.old.words }
+        ensures kernel { take (words_of_block * kernel_blocks) core.new.words ≡ take (words_of_block * kernel_blocks) core.old.words }
     {
         let kind = facts.kind;
         let blocks = facts.blocks;
@@ -209,7 +221,7 @@ impl Store {
     {
         match self.tree.next_leaf(of) {
             Some(place) => {
-                self.access.clear_object(place);
+                drop_all(&mut self.access, place);
                 self.frames.free(place);
                 self.tree.remove_leaf(place);
                 true
@@ -247,14 +259,14 @@ impl Store {
         }
     }
 
-    /// There are at most 64 levels.
+    /// There are at most `MOST_LEVELS` levels.
     pub fn law_levels(&self)
-        ensures { length self.now.levels ≤ 64 }
+        ensures { length self.now.levels ≤ most_levels }
     {
         let _count = self.levels.len();
     }
 
-    /// A segment has so many blocks as its facts say, within blocks 64 to 3,967 and apart from those of all other
+    /// A segment has so many blocks as its facts say, above the kernel's blocks, and apart from those of all other
     /// segments; messages wait in mailboxes alone, and bytes on lines alone.
     pub fn law_contents(&self)
         ensures kinds { HaveKinds self.now }
@@ -271,30 +283,31 @@ impl Store {
     {
         let slot = self.tree.find(path).unwrap();
         let (first, _) = self.frames.extent(slot).unwrap();
-        core.word(first * 64 + u32::from(offset))
+        core.word(first * BYTES_OF_BLOCK + u32::from(offset))
     }
 
-    /// The word at the offset in bytes of the segment at the path becomes this one. All else stays, the words of core
-    /// below block 64 too.
+    /// The word at the offset in bytes of the segment at the path becomes this one. All else stays, the words
+    /// of the kernel's blocks too.
     pub fn write_word(&self, core: &mut Core, path: Path, offset: u16, value: u16)
         requires even { offset % 2 ≡ 0 }
         requires inside { HasOffset self.now path offset }
         ensures words { objects_of self.now core.new.words ≡ written path (offset / 2) value (objects_of self.now core.old.words) }
-        ensures kernel { take 2048 core.new.words ≡ take 2048 core.old.words }
+        ensures kernel { take (words_of_block * kernel_blocks) core.new.words ≡ take (words_of_block * kernel_blocks) core.old.words }
     {
         let slot = self.tree.find(path).unwrap();
         let (first, _) = self.frames.extent(slot).unwrap();
-        core.set_word(first * 64 + u32::from(offset), value);
+        core.set_word(first * BYTES_OF_BLOCK + u32::from(offset), value);
     }
 
     /// The message waits in the mailbox at the path behind all others; where 16 wait it is lost and counted, in a count
-    /// that stays at 65,535. All else stays.
-    pub fn put_message(&mut self, path: Path, words: [u16; 4])
+    /// that stays at 65,535, and the answer is false. All else stays.
+    pub fn put_message(&mut self, path: Path, words: [u16; 4]) -> bool
         requires { HasMailbox self.old path }
-        ensures { self.new ≡ with_message path words self.old }
+        ensures kept { result ≡ has_place_in self.old path }
+        ensures rest { self.new ≡ with_message path words self.old }
     {
         let slot = self.tree.find(path).unwrap();
-        put_at(&mut self.mailboxes, slot, words);
+        put_at(&mut self.mailboxes, slot, words)
     }
 
     /// The oldest message of the mailbox at the path, which waits no longer, and the count of lost ones, which begins
@@ -331,9 +344,26 @@ impl Store {
     }
 }
 
+// The row in which the subject has these modes too.
+fn given(mut row: Row, subject: u8, modes: Modes) -> Row
+    requires { subject < rows.most_subjects }
+    ensures row { result ≡ rows.given subject modes row }
+{
+    row.add(subject, modes);
+    row
+}
+
+// No subject holds the object of the place any more.
+fn drop_all(access: &mut Access, place: Slot)
+    requires { place.n < access.old.slots }
+    ensures held { access.new ≡ cleared place.n access.old }
+{
+    access.clear_object(place);
+}
+
 // The number of a line.
 fn line_of(kind: Kind) -> Option<u8>
-    ensures { result ≡ number_of kind }
+    ensures { result ≡ queue_calls.line_of kind }
 {
     match kind {
         Kind::Line(n) => Some(n),
@@ -351,7 +381,7 @@ fn place_for(frames: &mut Frames, core: &mut Core, slot: Slot, kind: Kind, block
     ensures segments { segments_of frames.new core.new.words ≡ with_some (segments_of frames.old core.old.words) slot.n (zeros_of (blocks_of kind blocks)) }
     ensures sizes { sizes_of frames.new ≡ with_some (sizes_of frames.old) slot.n (blocks_of kind blocks) }
     ensures room { KeepsRoom frames.old frames.new }
-    ensures below { take (32 * frames.old.first) core.new.words ≡ take (32 * frames.old.first) core.old.words }
+    ensures below { take (words_of_block * frames.old.first) core.new.words ≡ take (words_of_block * frames.old.first) core.old.words }
     ensures apart { IsApart frames.new }
 {
     if let Kind::Segment = kind {

@@ -4,8 +4,8 @@ mod allowed;
 mod mixed;
 mod plain;
 
-ghost use Rattle.std.specs.Prelude.{◌≡◌, replicate};
-ghost use Rattle.bk_object.specs.Modes.{no_modes};
+ghost use Rattle.std.specs.Prelude.{◌≡◌};
+ghost use Rattle.bk_object.specs.Rows.{empty_row};
 
 use crate::Store;
 use allowed::{
@@ -22,14 +22,14 @@ use bk_tree::TreeNo;
 use std::alloc::Global;
 
 fn root() -> Facts
-    ensures { result ≡ record { kind = Kind.Directory; blocks = 0; level = 0; quota = 16; row = replicate 32 no_modes } }
+    ensures { result ≡ record { kind = Kind.Directory; blocks = 0; level = 0; quota = 16; row = empty_row } }
 {
     facts_of(Kind::Directory, 0, 0, 16)
 }
 
 // The facts of an object that grants nobody anything.
 fn facts_of(kind: Kind, blocks: u8, level: u8, quota: u16) -> Facts
-    ensures { result ≡ record { kind = kind; blocks = blocks; level = level; quota = quota; row = replicate 32 no_modes } }
+    ensures { result ≡ record { kind = kind; blocks = blocks; level = level; quota = quota; row = empty_row } }
 {
     Facts {
         kind,

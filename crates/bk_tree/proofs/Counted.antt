@@ -86,19 +86,3 @@ cell_is m path limit n cell new false is limits used within fits after =
     let one : cell.used ≡ 1 = ap (λ (c : Usage). c.used) is in
     let most : cell.limit ≡ limit = ap (λ (c : Usage). c.limit) is in
     absurd (cc (fits.1 (omega (arith, one, most, limits, used, within))))
-
-upgraded_is : (m : Objects) (path above : Path) (facts : Facts) → path ≢ [] → above ≡ parent path → Some facts ≡ facts_in facts_of m path →
-    is_upgraded_in facts_of m path ≡ (is_directory facts.kind && passes (λ (up : Facts). not (up.level == facts.level)) (facts_in facts_of m above))
-upgraded_is m [] above facts below is there = absurd (below refl)
-upgraded_is m (e ∷ p) above facts below is there =
-    λ i. passes (λ f. is_directory f.kind && passes (λ (up : Facts). not (up.level == f.level)) (facts_in facts_of m (sym is i))) (sym there i)
-
-pub upgraded_then : (m : Objects) (path above : Path) (facts : Facts) → path ≢ [] → above ≡ parent path → Some facts ≡ facts_in facts_of m path → is_directory facts.kind ≡ true →
-    passes (λ (up : Facts). not (up.level == facts.level)) (facts_in facts_of m above) ≡ is_upgraded_in facts_of m path
-upgraded_then m path above facts below is there kind =
-    sym (upgraded_is m path above facts below is there ∙ ap (λ b. b && passes (λ (up : Facts). not (up.level == facts.level)) (facts_in facts_of m above)) kind)
-
-pub upgraded_else : (m : Objects) (path above : Path) (facts : Facts) → path ≢ [] → above ≡ parent path → Some facts ≡ facts_in facts_of m path → is_directory facts.kind ≡ false →
-    is_directory facts.kind ≡ is_upgraded_in facts_of m path
-upgraded_else m path above facts below is there kind =
-    kind ∙ sym (upgraded_is m path above facts below is there ∙ ap (λ b. b && passes (λ (up : Facts). not (up.level == facts.level)) (facts_in facts_of m above)) kind)

@@ -1,6 +1,7 @@
 -- A deepest inferior has no children.
 use Rattle.std.proofs.Common.{◌≡◌, ℕ, ◌+◌, ◌<◌, Bool, true, false, ◌||◌, List, ◌∷◌, length, Option, Some, None, refl, sym, ap, ◌∙◌, subst, arith}
 use Rattle.std.specs.Prelude.{slice_get, unwrap_or, option_map, if◌then◌else◌, IsNone, IsTrue, IfSome, IfNone, ◌↔◌}
+use Rattle.std.proofs.lemmas.Bool.{or_right}
 use Rattle.std.specs.FinMap.{get}
 use Rattle.std.proofs.lemmas.Option.{slice_get_within}
 use Rattle.bk_object.specs.declared.Facts.{Facts}
@@ -60,12 +61,8 @@ module _ (places seen : List (Option Object)) (m : Objects) (apart : IsApart pla
             inferior = truly _ below;
             childless = λ entry.
                 let rank = rank_held of seen k a.path a.facts is below in
-                subst IsNone (sym (none_below (rank_at of seen k) highest (entry ∷ a.path) (or_second (is_same (entry ∷ a.path) of) (is_inferior a.path of) below) (omega (arith, rank)))) refl;
+                subst IsNone (sym (none_below (rank_at of seen k) highest (entry ∷ a.path) (or_right (is_same (entry ∷ a.path) of) (is_inferior a.path of) below) (omega (arith, rank)))) refl;
           }
-            where
-              or_second : (a b : Bool) → b ≡ true → (a || b) ≡ true
-              or_second true b h = refl
-              or_second false b h = h
 
 -- None exactly where none is there
 pub none_exactly : (m : Objects) (of : Path) (o : Option Slot) → IfSome o (λ slot. IsLeafOf m of slot.n) → (IfNone o (HasNone m of)) → IsNone o ↔ HasNone m of

@@ -1,6 +1,7 @@
 -- Where no cell is overdrawn, what all objects need fits root's quota: over a map from paths to values that have facts.
 use Rattle.std.proofs.Common.{◌≡◌, ℕ, ◌+◌, ◌≤◌, Bool, true, false, cond, not, ◌&&◌, ◌||◌, ◌==◌, List, [], ◌∷◌, Option, Some, None, refl, sym, ap, ◌∙◌, arith}
 use Rattle.std.specs.Prelude.{sum_by, unwrap_or, option_map, if◌then◌else◌}
+use Rattle.std.specs.Cmp.{first_so}
 use Rattle.std.specs.FinMap.{FinMap, get, entries, len, len-entries}
 use Rattle.std.specs.Ordering.{eq_by_cmp}
 use Rattle.bk_base.proofs.Totals.{total_of}
@@ -18,10 +19,6 @@ use Rattle.bk_tree.proofs.Smaller.{charge_kind, charge_is, charge_by}
 no_and : (b : Bool) → (b && false) ≡ true → ⊥
 no_and true h = cc
 no_and false h = cc
-
-first_and : (a b : Bool) → (a && b) ≡ true → a ≡ true
-first_and true b h = refl
-first_and false b h = cc
 
 -- an upgraded directory is charged its quota
 upgraded_charge : (f : Facts) (above : Option Facts) → (is_directory f.kind && passes (λ (a : Facts). not (a.level == f.level)) above) ≡ true →
@@ -159,7 +156,7 @@ module _ {X : Type 0} (facts_of : X → Facts) (m : FinMap path_cmp X) where
         by true is =
             let up = sym (upgraded_is e p x h) ∙ is in
             let charge = upgraded_charge (facts_of x) (facts_in facts_of m p) up in
-            let need = need_directory ((facts_of x).kind) ((facts_of x).blocks) (first_and (is_directory ((facts_of x).kind)) _ up) in
+            let need = need_directory ((facts_of x).kind) ((facts_of x).blocks) (first_so (is_directory ((facts_of x).kind)) _ up) in
             omega (arith, charge, need)
         by false is =
             let charge = charge_is ((facts_of x).kind) (facts_of x) (level_in facts_of m p) in

@@ -5,6 +5,7 @@ use Rattle.bk_object.specs.declared.Facts.{Facts}
 use Rattle.bk_object.specs.declared.Kind.{Kind}
 use Rattle.bk_object.specs.declared.Kind.TheVariants.{Directory, Segment, Mailbox, Line}
 use Rattle.bk_object.specs.Kinds.{is_directory}
+use Rattle.bk_object.specs.Limits.{largest_quota, most_blocks}
 use Rattle.bk_path.specs.Paths.{Path, is_root, parent}
 use Rattle.bk_quota.specs.Charges.{charge_of, governing_in, level_in, quota_in, is_upgraded_in, used_in}
 use Rattle.bk_quota.specs.Usage.{Usage}
@@ -27,13 +28,13 @@ Fits m path facts =
 -- so many blocks: 1 to 128 for a segment, 0 for other kinds
 abbrev pub HasBlocks : Kind → ℕ → Type 0
 HasBlocks Directory blocks = blocks ≡ 0
-HasBlocks Segment blocks = (1 ≤ blocks) × (blocks ≤ 128)
+HasBlocks Segment blocks = (1 ≤ blocks) × (blocks ≤ most_blocks)
 HasBlocks Mailbox blocks = blocks ≡ 0
 HasBlocks (Line n) blocks = blocks ≡ 0
 
 -- such a quota: 1 to 3,904 for an upgraded directory, 0 for all else
 abbrev pub HasQuota : (upgraded : Bool) → ℕ → Type 0
-HasQuota true quota = (1 ≤ quota) × (quota ≤ 3904)
+HasQuota true quota = (1 ≤ quota) × (quota ≤ largest_quota)
 HasQuota false quota = quota ≡ 0
 
 -- the facts of an object below a directory of that level
@@ -49,6 +50,7 @@ HasDirectory m path = (a : Placed) × (map.get m path ≡ Some a) × (is_directo
 abbrev pub IsClosed : Objects → Type 0
 IsClosed m = (entry : ℕ) (path : Path) (a : Placed) → map.get m (entry ∷ path) ≡ Some a → HasDirectory m path
 
+-- what every tree keeps
 pub record IsKept (m : Objects) : Type 0 where
   pub parents : IsClosed m
   pub charges : (entry : ℕ) (path : Path) (a : Placed) → map.get m (entry ∷ path) ≡ Some a → 1 ≤ charge_of a.facts (level_in facts_of m path)

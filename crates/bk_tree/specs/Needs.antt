@@ -25,6 +25,7 @@ core_by Segment blocks = blocks
 core_by Mailbox blocks = 0
 core_by (Line n) blocks = 0
 
+-- the blocks of core that an object has
 abbrev pub blocks_of : Facts → ℕ
 blocks_of facts = core_by facts.kind facts.blocks
 

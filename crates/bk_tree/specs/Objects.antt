@@ -6,12 +6,15 @@ use Rattle.bk_object.specs.declared.Slot.{Slot}
 use Rattle.bk_path.specs.Paths.{Path, path_cmp, is_inferior, is_same}
 use Rattle.bk_tree.specs.declared.place.Placed.{Placed}
 
+-- from each path to the slot and the facts of the object there
 abbrev pub Objects : Type 0
 Objects = map.FinMap path_cmp Placed
 
+-- the facts of an object
 abbrev pub facts_of : Placed → Facts
 facts_of placed = placed.facts
 
+-- the slot of an object
 abbrev pub slot_of : Placed → Slot
 slot_of placed = record { n = placed.slot }
 

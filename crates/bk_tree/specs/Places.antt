@@ -1,9 +1,11 @@
 -- A list of places as the map from paths to slots and facts.
-use Rattle.std.specs.Prelude.{◌≡◌, ◌≢◌, ℕ, suc, ◌+◌, ◌≤◌, Bool, true, false, List, [], ◌∷◌, length, Option, Some, None, slice_get, ◌<◌, unwrap_or, option_map, if◌then◌else◌}
+use Rattle.std.specs.Prelude.{◌≡◌, ◌≢◌, ℕ, suc, ◌+◌, ◌≤◌, Bool, true, false, List, [], ◌∷◌, length, Option, Some, None, slice_get, ◌<◌}
+use Rattle.std.specs.Prelude.{unwrap_or, option_map, if◌then◌else◌}
 use Rattle.std.specs.FinMap as map
 use Rattle.std.specs.Ordering.{eq_by_cmp}
 use Rattle.bk_object.specs.declared.Facts.{Facts}
 use Rattle.bk_object.specs.Kinds.{is_directory}
+use Rattle.bk_object.specs.Limits.{largest_quota}
 use Rattle.bk_path.specs.Paths.{Path, path_cmp, is_inferior}
 use Rattle.bk_tree.specs.declared.place.Placed.{Placed}
 use Rattle.bk_tree.specs.declared.place.Object.{Object}
@@ -22,6 +24,7 @@ entries_from n [] = []
 entries_from n (None ∷ places) = entries_from (suc n) places
 entries_from n (Some object ∷ places) = (object.path, record { slot = n; facts = object.facts }) ∷ entries_from (suc n) places
 
+-- the map that a list of places stands for
 abbrev pub tree_of : List (Option Object) → Objects
 tree_of places = map.from_entries (entries_from 0 places)
 
@@ -44,7 +47,7 @@ pub record IsRooted (places : List (Option Object)) (root : Facts) : Type 0 wher
 pub record IsTree (places : List (Option Object)) : Type 0 where
   pub apart : IsApart places
   pub rooted : (root : Facts) × IsRooted places root
-  pub short : length places ≤ 3904
+  pub short : length places ≤ largest_quota
   pub kept : IsKept (tree_of places)
 
 -- 1 and the depth of an inferior of the path; 0 for a free place and for what is no inferior
@@ -52,6 +55,7 @@ abbrev pub rank_in : (of : Path) → Option Object → ℕ
 rank_in of None = 0
 rank_in of (Some object) = if is_inferior object.path of then 1 + length object.path else 0
 
+-- that of what the place with this number holds
 abbrev pub rank_at : (of : Path) → List (Option Object) → ℕ → ℕ
 rank_at of places place = unwrap_or (option_map (rank_in of) (slice_get places place)) 0
 

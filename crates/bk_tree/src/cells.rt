@@ -1,23 +1,25 @@
 // Governing cells and used numbers, counted over the list of places.
 
-ghost use Rattle.std.specs.Prelude.{◌≡◌, ◌≢◌, IsSome, ◌≤◌, ◌<◌, ◌+◌, ◌↔◌, [], IsTrue, is_some, not, ◌==◌, length, option_map, slice_index_or, sum_by, unwrap_or};
+ghost use Rattle.std.specs.Prelude.{◌≡◌, ◌≢◌, IsSome, ◌≤◌, ◌<◌, ◌+◌, ◌↔◌, [], IsTrue, is_some, not, ◌==◌, length, option_map, slice_index_or};
+ghost use Rattle.std.specs.Prelude.{sum_by, unwrap_or};
 ghost use Rattle.std.specs.FinMap as map;
-ghost use Rattle.bk_object.specs.Kinds as kinds;
+ghost use Rattle.bk_object.specs.Limits.{largest_quota};
 ghost use Rattle.bk_path.specs.Paths.{parent};
 ghost use Rattle.bk_quota.specs.Charges as charges;
 ghost use Rattle.bk_quota.specs.Charges.{used_in};
 ghost use Rattle.bk_tree.specs.Kept.{cell_in, Fits};
+ghost use Rattle.bk_tree.specs.declared.place.Placed.{Placed};
 ghost use Rattle.bk_tree.specs.Objects.{facts_of};
 ghost use Rattle.bk_tree.specs.Places.{share_of, tree_of, IsApart, IsTree};
 
 use crate::place::{Object, object_at, scan};
-use bk_object::{Facts, Kind, Slot};
+use bk_object::{Facts, Slot};
 use bk_path::Path;
-use bk_quota::{Cell, charge_of};
+use bk_quota::{Cell, FactsByPath, charge_of};
 
 // The facts of the object at the path.
 fn facts_at(places: &[Option<Object>], path: Path) -> Option<Facts>
-    requires { length places.now ≤ 3904 }
+    requires { length places.now ≤ largest_quota }
     ensures { result ≡ charges.facts_in facts_of (tree_of places.now) path }
 {
     match scan(places, path) {
@@ -28,7 +30,7 @@ fn facts_at(places: &[Option<Object>], path: Path) -> Option<Facts>
 
 // Whether an object is at the path.
 pub(crate) fn is_taken(places: &[Option<Object>], path: Path) -> bool
-    requires { length places.now ≤ 3904 }
+    requires { length places.now ≤ largest_quota }
     ensures { result ≡ is_some (map.get (tree_of places.now) path) }
 {
     match facts_at(places, path) {
@@ -39,7 +41,7 @@ pub(crate) fn is_taken(places: &[Option<Object>], path: Path) -> bool
 
 // The level of the object at the path, or 0.
 fn level_at(places: &[Option<Object>], path: Path) -> u8
-    requires { length places.now ≤ 3904 }
+    requires { length places.now ≤ largest_quota }
     ensures { result ≡ charges.level_in facts_of (tree_of places.now) path }
 {
     match facts_at(places, path) {
@@ -50,7 +52,7 @@ fn level_at(places: &[Option<Object>], path: Path) -> u8
 
 // The quota of the object at the path, or 0.
 fn quota_at(places: &[Option<Object>], path: Path) -> u16
-    requires { length places.now ≤ 3904 }
+    requires { length places.now ≤ largest_quota }
     ensures value { result ≡ charges.quota_in facts_of (tree_of places.now) path }
     ensures small { result < 65536 }
 {
@@ -60,58 +62,36 @@ fn quota_at(places: &[Option<Object>], path: Path) -> u16
     }
 }
 
-fn is_directory(kind: Kind) -> bool
-    ensures { result ≡ kinds.is_directory kind }
-{
-    match kind {
-        Kind::Directory => true,
-        Kind::Segment | Kind::Mailbox | Kind::Line(_) => false,
-    }
+// The places, as what tells facts by path.
+#[derive(Clone, Copy)]
+pub(crate) struct Told<'a> {
+    places: &'a [Option<Object>],
+    ghost short: { length places.now ≤ largest_quota },
 }
 
-// Whether a directory of another level than its parent's is at the path.
-fn is_upgraded(places: &[Option<Object>], path: Path, above: Path) -> bool
-    requires short { length places.now ≤ 3904 }
-    requires below { path ≢ [] }
-    requires parent { above ≡ parent path }
-    ensures { result ≡ charges.is_upgraded_in facts_of (tree_of places.now) path }
-{
-    match facts_at(places, path) {
-        Some(facts) => is_directory(facts.kind) && has_other_level(places, above, facts.level),
-        None => false,
-    }
-}
+impl<'a> FactsByPath for Told<'a> {
+    ghost Kept = { Placed };
 
-fn has_other_level(places: &[Option<Object>], path: Path, level: u8) -> bool
-    requires { length places.now ≤ 3904 }
-    ensures { result ≡ charges.passes (λ facts. not (facts.level == level)) (charges.facts_in facts_of (tree_of places.now) path) }
-{
-    match facts_at(places, path) {
-        Some(facts) => facts.level != level,
-        None => false,
+    ghost facts_of = { facts_of };
+
+    ghost objects = { λ told. tree_of told.places.now };
+
+    fn facts_at(&self, path: Path) -> Option<Facts> {
+        facts_at(self.places, path)
     }
 }
 
 // The nearest of the path and its ancestors that has a cell.
 fn governing(places: &[Option<Object>], path: Path) -> Path
-    requires { length places.now ≤ 3904 }
+    requires { length places.now ≤ largest_quota }
     ensures { result ≡ charges.governing_in facts_of (tree_of places.now) path }
 {
-    match path.parent() {
-        Some(above) => {
-            if is_upgraded(places, path, above) {
-                path
-            } else {
-                governing(places, above)
-            }
-        }
-        None => Path::root(),
-    }
+    bk_quota::governing(&Told { places }, path)
 }
 
 // What the object that has the place adds to the used number of the cell.
 fn share(places: &[Option<Object>], place: &Option<Object>, cell: Path) -> u16
-    requires { length places.now ≤ 3904 }
+    requires { length places.now ≤ largest_quota }
     ensures { result ≡ share_of (tree_of places.now) cell place.now }
 {
     match place {
@@ -121,8 +101,8 @@ fn share(places: &[Option<Object>], place: &Option<Object>, cell: Path) -> u16
 }
 
 fn share_below(places: &[Option<Object>], path: Path, facts: &Facts, cell: Path) -> u16
-    requires { length places.now ≤ 3904 }
-    ensures { result ≡ charges.share_in facts_of (tree_of places.now) cell path facts.now }
+    requires { length places.now ≤ largest_quota }
+    ensures share { result ≡ charges.share_in facts_of (tree_of places.now) cell path facts.now }
 {
     match path.parent() {
         Some(above) => {
@@ -138,7 +118,7 @@ fn share_below(places: &[Option<Object>], path: Path, facts: &Facts, cell: Path)
 
 // What all objects add to the used number of the cell.
 fn charged(places: &[Option<Object>], cell: Path) -> u16
-    requires short { length places.now ≤ 3904 }
+    requires short { length places.now ≤ largest_quota }
     requires fits { sum_by (λ place. share_of (tree_of places.now) cell place) places.now < 65536 }
     ensures { result ≡ sum_by (λ place. share_of (tree_of places.now) cell place) places.now }
 {
@@ -151,7 +131,7 @@ fn charged(places: &[Option<Object>], cell: Path) -> u16
 
 // The cell at the path, of which no more than its limit is used.
 fn cell_at(places: &[Option<Object>], path: Path) -> Cell
-    requires short { length places.now ≤ 3904 }
+    requires short { length places.now ≤ largest_quota }
     requires apart { IsApart places.now }
     requires within { used_in facts_of (tree_of places.now) path ≤ charges.quota_in facts_of (tree_of places.now) path }
     ensures { result ≡ cell_in (tree_of places.now) path }

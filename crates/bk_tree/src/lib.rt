@@ -3,6 +3,8 @@
 //! Model: `specs/Objects.antt` (`Objects`, `IsAt`, `IsLeafOf`, `without`), `specs/Kept.antt` (`IsFit`, `Fits`, `cell_in`), `specs/Refused.antt` (`Refuses`), `specs/Needs.antt` (`needs_in`, `blocks_in`); `specs/Places.antt` (`tree_of`) says what a list of places stands for.
 //! Calls: `Tree::reserve`, `find`, `facts`, `set_row`, `create`, `cell`, `next_leaf`, `remove_leaf`, `law_slots`, `law_kept`, `law_room`.
 //! Proved: a tree is a map from paths to facts, each path at a slot of its own below the number of slots; an object is created exactly where its path is free and its charge fits the governing cell, and then a slot is always free; what all objects need, the blocks of segments among it, fits root's quota; each call changes the one object that it names.
+//! Tested: that objects are created, counted and removed, and that a tree of as many objects as root's quota is filled, emptied and filled again.
+//! Neither: nothing.
 //! Stands on: `bk_base`, `bk_object`, `bk_path`, `bk_quota`.
 #![tactic(auto)]
 

@@ -2,6 +2,7 @@
 
 ghost use Rattle.std.specs.Prelude.{◌≡◌, ◌≤◌, ◌<◌, ◌↔◌, IsTrue, length, option_map, slice_get, slice_set, IfNone, IfOk, IfSome, None, Some, replicate};
 ghost use Rattle.std.specs.FinMap as map;
+ghost use Rattle.bk_object.specs.Limits.{largest_quota};
 ghost use Rattle.bk_path.specs.Paths.{path_cmp};
 ghost use Rattle.bk_tree.specs.Objects.{slot_of};
 ghost use Rattle.bk_tree.specs.declared.place.Object.{Object as Held};
@@ -42,7 +43,7 @@ pub(crate) fn free_places(alloc: Global, slots: u16) -> Result<Vec<Option<Object
 
 // The place of the object at the path, searched from the front.
 pub(crate) fn scan(places: &[Option<Object>], path: Path) -> Option<Slot>
-    requires { length places.now ≤ 3904 }
+    requires { length places.now ≤ largest_quota }
     ensures { result ≡ option_map slot_of (map.find path_cmp path (entries_from 0 places.now)) }
 {
     for place in 0..places.len() {
@@ -65,7 +66,7 @@ fn is_held_by(place: &Option<Object>, path: Path) -> bool
 
 // The first free place.
 pub(crate) fn first_free(places: &[Option<Object>]) -> Option<Slot>
-    requires { length places.now ≤ 3904 }
+    requires { length places.now ≤ largest_quota }
     ensures some { IfSome result (λ slot. slice_get places.now slot.n ≡ Some None) }
     ensures none { IfNone result (IsFull places.now (length places.now)) }
 {
@@ -115,7 +116,7 @@ pub(crate) fn with_row(object: Object, row: Row) -> Object
 
 // The place of a deepest inferior of the path, if there is an inferior.
 pub(crate) fn deepest(places: &[Option<Object>], of: Path) -> Option<Slot>
-    requires { length places.now ≤ 3904 }
+    requires { length places.now ≤ largest_quota }
     ensures some { IfSome result (λ slot. (0 < rank_at of places.now slot.n) × IsHighest of places.now (length places.now) (rank_at of places.now slot.n)) }
     ensures none { IfNone result (IsHighest of places.now (length places.now) 0) }
 {

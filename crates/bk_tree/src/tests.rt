@@ -1,16 +1,18 @@
 // Tests of what no clause says: that the calls succeed, with numbers worked out by hand, and a tree at its limit.
 
-ghost use Rattle.std.specs.Prelude.{◌≡◌, ◌≢◌, ℕ, [], replicate};
+ghost use Rattle.std.specs.Prelude.{◌≡◌, ◌≢◌, ℕ, []};
 ghost use Rattle.bk_object.specs.declared.Kind.TheVariants.{Directory};
-ghost use Rattle.bk_object.specs.Modes.{no_modes};
+ghost use Rattle.bk_object.specs.Rows.{empty_row};
 ghost use Rattle.bk_tree.specs.Objects.{IsAt};
 
+use crate::cells::Told;
 use crate::{Tree, TreeNo};
 use bk_object::{Facts, Kind, Row, Slot};
 use bk_path::Path;
+use bk_quota::law_governing;
 
 fn facts(kind: Kind, quota: u16) -> Facts
-    ensures { result ≡ record { kind = kind; blocks = 0; level = 0; quota = quota; row = replicate 32 no_modes } }
+    ensures { result ≡ record { kind = kind; blocks = 0; level = 0; quota = quota; row = empty_row } }
 {
     Facts {
         kind,
@@ -21,9 +23,13 @@ fn facts(kind: Kind, quota: u16) -> Facts
     }
 }
 
+// How many objects fill a tree.
+const MANY: u16 = 400;
+
 // Root with a limit of 3: 1 for root and 2 for a mailbox fill it, and the mailbox takes the second place.
 #[test]
 fn creates_counts_and_removes(rt: HostRuntime) {
+    law_governing::<Told>();
     let mut tree = Tree::reserve(rt.alloc(), 3, facts(Kind::Directory, 3)).expect(&rt, "memory");
     let path = Path::root().child(5).expect(&rt, "one entry");
     let created = tree.create(path, facts(Kind::Mailbox, 0));
@@ -53,7 +59,7 @@ fn add(tree: &mut Tree, above: Path, entry: u8) -> Option<Result<Slot, TreeNo>> 
 
 // The facts of a directory at the level of another.
 fn directory(held: Facts) -> Facts
-    ensures { result ≡ record { kind = Directory; blocks = 0; level = held.level; quota = 0; row = replicate 32 no_modes } }
+    ensures { result ≡ record { kind = Directory; blocks = 0; level = held.level; quota = 0; row = empty_row } }
 {
     Facts {
         kind: Kind::Directory,
@@ -125,7 +131,7 @@ fn fill(tree: &mut Tree, group: Path) -> bool {
 fn remove_group(tree: &mut Tree, group: Path)
     requires { group ≢ [] }
 {
-    for _ in 0..3904 {
+    for _ in 0..MANY {
         match tree.next_leaf(group) {
             Some(leaf) => tree.remove_leaf(leaf),
             None => return,
@@ -140,15 +146,15 @@ fn used_of_root(tree: &Tree) -> u16 {
     }
 }
 
-// 3,904 directories, root among them, are as many as root's quota: one more is refused. All but root go as one group, and fit again.
+// 400 directories, root among them, are as many as root's quota: one more is refused. All but root go as one group, and fit again.
 #[test]
 fn fills_root_and_empties_it_and_fills_it_again(rt: HostRuntime) {
-    let mut tree = Tree::reserve(rt.alloc(), 3904, facts(Kind::Directory, 3904)).expect(
+    let mut tree = Tree::reserve(rt.alloc(), MANY, facts(Kind::Directory, MANY)).expect(
         &rt, "memory",
     );
     let group = Path::root().child(0).expect(&rt, "one entry");
     assert!(rt; !fill(&mut tree, group));
-    assert_eq!(rt; used_of_root(&tree), 3904);
+    assert_eq!(rt; used_of_root(&tree), MANY);
     let last = group.child(15).expect(&rt, "two entries");
     assert_eq!(rt; add(&mut tree, last, 15), Some(Err(TreeNo::Taken)));
     let lowest = last.child(15).expect(&rt, "three entries");
@@ -157,5 +163,5 @@ fn fills_root_and_empties_it_and_fills_it_again(rt: HostRuntime) {
     assert_eq!(rt; tree.find(group), None);
     assert_eq!(rt; used_of_root(&tree), 1);
     assert!(rt; !fill(&mut tree, group));
-    assert_eq!(rt; used_of_root(&tree), 3904);
+    assert_eq!(rt; used_of_root(&tree), MANY);
 }

@@ -4,6 +4,7 @@ ghost use Rattle.std.specs.Prelude.{◌≡◌, ◌≢◌, ◌<◌, IfErr, ℕ, �
 ghost use Rattle.std.specs.FinMap as map;
 ghost use Rattle.bk_object.specs.declared.Facts.{Facts as FactsValue};
 ghost use Rattle.bk_object.specs.Kinds.{is_directory};
+ghost use Rattle.bk_object.specs.Limits.{largest_quota};
 ghost use Rattle.bk_path.specs.Paths.{Path as PathValue, parent};
 ghost use Rattle.bk_quota.specs.Charges.{governing_in, level_in, quota_in};
 ghost use Rattle.bk_tree.specs.Kept.{cell_in, Fits, HasDirectory, IsFit, IsKept};
@@ -58,7 +59,7 @@ impl Tree {
     pub fn reserve(alloc: Global, slots: u16, root: Facts) -> Result<Tree, NoMemory>
         requires directory { is_directory root.kind ≡ true }
         requires blocks { root.blocks ≡ 0 }
-        requires quota { (1 ≤ root.quota) × (root.quota ≤ 3904) }
+        requires quota { (1 ≤ root.quota) × (root.quota ≤ largest_quota) }
         requires slots { slots ≡ root.quota }
         ensures { IfOk result (λ tree. tree ≡ begun root) }
     {
@@ -168,7 +169,7 @@ impl Tree {
         ensures needs { 1 + needs_in facts_of self.now ≤ quota_in facts_of self.now [] }
         ensures blocks { 1 + blocks_in facts_of self.now ≤ quota_in facts_of self.now [] }
         ensures objects { map.len self.now ≤ quota_in facts_of self.now [] }
-        ensures quota { quota_in facts_of self.now [] ≤ 3904 }
+        ensures quota { quota_in facts_of self.now [] ≤ largest_quota }
     {
         let _places = self.places.len();
     }

@@ -1,5 +1,5 @@
 use super::Frames;
-use bk_core::Core;
+use bk_core::{BLOCKS, BYTES_OF_BLOCK, Core, WORDS_OF_BLOCK};
 use bk_object::Slot;
 use std::test::Fail;
 
@@ -17,20 +17,20 @@ fn place(frames: &mut Frames, core: &mut Core, n: u16, blocks: u8) -> Option<u32
 
 // Each word of a block becomes this one.
 fn fill(core: &mut Core, block: u32, word: u16) {
-    if block < 3968 {
-        for i in 0..32 {
-            core.set_word(64 * block + 2 * i, word);
+    if block < BLOCKS {
+        for i in 0..WORDS_OF_BLOCK {
+            core.set_word(BYTES_OF_BLOCK * block + 2 * i, word);
         }
     }
 }
 
 // Whether each word of a block is this one.
 fn is_filled(core: &Core, block: u32, word: u16) -> bool {
-    if block >= 3968 {
+    if block >= BLOCKS {
         return false;
     }
-    for i in 0..32 {
-        if core.word(64 * block + 2 * i) != word {
+    for i in 0..WORDS_OF_BLOCK {
+        if core.word(BYTES_OF_BLOCK * block + 2 * i) != word {
             return false;
         }
     }

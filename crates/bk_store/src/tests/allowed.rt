@@ -6,10 +6,10 @@ ghost use Rattle.bk_tree.specs.Kept.{HasBlocks, HasQuota};
 
 use crate::Store;
 use bk_core::Core;
-use bk_object::{Facts, Kind, Modes};
+use bk_object::{Facts, Kind, MOST_SUBJECTS, Modes};
 use bk_path::Path;
 use bk_queue::Message;
-use bk_quota::Cell;
+use bk_quota::{Cell, LARGEST_QUOTA};
 use bk_tree::TreeNo;
 
 // Creates an object that is no line.
@@ -59,7 +59,7 @@ fn has_quota(upgraded: bool, quota: u16) -> bool
     ensures { IsTrue result → HasQuota upgraded quota }
 {
     if upgraded {
-        1 <= quota && quota <= 3904
+        1 <= quota && quota <= LARGEST_QUOTA
     } else {
         quota == 0
     }
@@ -90,7 +90,7 @@ pub(crate) fn change(
     modes: Modes,
 ) -> Option<()> {
     store.facts(path)?;
-    if subject >= 32 {
+    if subject >= MOST_SUBJECTS {
         return None;
     }
     match call {
@@ -138,7 +138,7 @@ pub(crate) fn put_message(store: &mut Store, path: Path, words: [u16; 4]) -> Opt
     if facts.kind != Kind::Mailbox {
         return None;
     }
-    store.put_message(path, words);
+    let _ = store.put_message(path, words);
     Some(())
 }
 

@@ -5,15 +5,15 @@ use super::allowed::{
 };
 use super::plain::{Plain, charge, find, governing, level, new_plain, used};
 use super::{begun, facts_of};
-use crate::Store;
+use crate::{KERNEL_BLOCKS, Store};
 use bitflags::Flags;
-use bk_core::Core;
-use bk_object::{Kind, Modes, Row};
+use bk_core::{BLOCKS, Core};
+use bk_object::{Kind, MOST_SUBJECTS, Modes, Row};
 use bk_path::Path;
 use bk_queue::Message;
 use bk_tree::TreeNo;
 
-// The subjects that are granted and hold anything; the others of the 32 take no part.
+// The subjects that are granted and hold anything; the others take no part.
 const SUBJECTS: [u8; 4] = [0, 1, 15, 31];
 
 // A directory, one of another level, a segment or a mailbox: its kind, blocks, level and quota below that level.
@@ -69,10 +69,10 @@ fn agrees(store: &Store, core: &Core, objects: &[Plain], object: &Plain) -> Opti
     }
 }
 
-// Whether each of the 32 subjects is granted the object, and holds it, by the model's modes.
+// Whether each subject is granted the object, and holds it, by the model's modes.
 fn is_granted_and_held(store: &Store, object: &Plain, row: Row) -> bool {
     let mut same = true;
-    for subject in 0..32u8 {
+    for subject in 0..MOST_SUBJECTS {
         let place = usize::from(subject);
         same = same
             && row.get(subject).bits() == object.row[place]
@@ -92,11 +92,11 @@ fn has_words(store: &Store, core: &Core, object: &Plain) -> Option<bool> {
     Some(true)
 }
 
-// Whether the segment stands within blocks 64 to 3,967 and shares none with another.
+// Whether the segment stands above the kernel's blocks and shares none with another.
 fn stands_apart(store: &Store, objects: &[Plain], object: &Plain) -> Option<bool> {
     let (first, blocks) = store.extent(object.path)?;
     let end = first.saturating_add(u32::from(blocks));
-    let mut apart = blocks == object.blocks && 64 <= first && end <= 3968;
+    let mut apart = blocks == object.blocks && KERNEL_BLOCKS <= first && end <= BLOCKS;
     for other in objects {
         if other.path != object.path {
             if let Some((start, count)) = store.extent(other.path) {

@@ -1,6 +1,6 @@
 // A plain model of a store: a list of objects, in which everything is looked up from the front.
 
-use bk_object::Kind;
+use bk_object::{Kind, MOST_SUBJECTS};
 use bk_path::Path;
 
 // An object: of a segment, which has at most 3 blocks, the words; of a mailbox the number of the oldest message, how many
@@ -17,8 +17,8 @@ pub(crate) struct Plain {
     pub(crate) oldest: u16,
     pub(crate) waiting: u16,
     pub(crate) lost: u16,
-    pub(crate) row: [u8; 32],
-    pub(crate) held: [u8; 32],
+    pub(crate) row: [u8; MOST_SUBJECTS as usize],
+    pub(crate) held: [u8; MOST_SUBJECTS as usize],
 }
 
 // A new object, which grants nobody anything, and of which nobody holds anything.
@@ -33,8 +33,8 @@ pub(crate) fn new_plain(path: Path, kind: Kind, blocks: u8, level: u8, quota: u1
         oldest: 0,
         waiting: 0,
         lost: 0,
-        row: [0; 32],
-        held: [0; 32],
+        row: [0; MOST_SUBJECTS as usize],
+        held: [0; MOST_SUBJECTS as usize],
     }
 }
 

@@ -4,11 +4,13 @@ use Rattle.std.proofs.lemmas.List.{length-map}
 use Rattle.bk_path.specs.Paths.{parent}
 use Rattle.bk_quota.specs.Charges.{passes}
 use Rattle.bk_object.specs.Kinds.{is_directory}
+use Rattle.bk_object.specs.Limits.{words_of_block}
 use Rattle.bk_tree.specs.Kept.{IsFit}
 use Rattle.bk_store.specs.Stored.{Entry, IsCreated, IsFreeLine}
 use Rattle.bk_store.specs.Joined.{bytes_of, store_of, tables_of, waiting_of, IsStore}
 use Rattle.bk_store.proofs.Cells.{directory_in_tree, number-same}
-use Rattle.bk_store.proofs.Created.{created, extent_free, grown, later, line_in_tree, none_is, not_over, not_taken, over_where, own_slots, room_in, room_there, slot_below, store-created, taken_where}
+use Rattle.bk_store.proofs.Created.{created, extent_free, grown, later, line_in_tree, none_is, not_over, not_taken, over_where, own_slots}
+use Rattle.bk_store.proofs.Created.{room_in, room_there, slot_below, store-created, taken_where}
 use Rattle.bk_store.proofs.store.Store.create.Goals as goal
 
 pub create-requires-clause-parent : goal.create-requires-clause-parent
@@ -54,7 +56,7 @@ pub returns-in-Ok-clause-quota : goal.returns-in-Ok-clause-quota
 returns-in-Ok-clause-quota c = (λ e. cc, λ h. absurd (not_over c.self.inside.tree (tables_of c.self.inside.frames c.self.inside.mailboxes.items c.self.inside.inputs.items) c.args.path c.args.facts c.args.self.now (ap (λ v. v.objects) (sym c.self.view_is)) c.in-Ok.ensures.ok.1 h))
 
 pub returns-in-Ok-clause-kernel : goal.returns-in-Ok-clause-kernel
-returns-in-Ok-clause-kernel c = subst (λ n. take (32 * n) c.place_for.new.core.words ≡ take (32 * n) c.args.core.now.words) c.self.invariant.extents.first c.place_for.ensures.below
+returns-in-Ok-clause-kernel c = subst (λ n. take (words_of_block * n) c.place_for.new.core.words ≡ take (words_of_block * n) c.args.core.now.words) c.self.invariant.extents.first c.place_for.ensures.below
 
 pub returns-in-Err-clause-taken : goal.returns-in-Err-clause-taken
 returns-in-Err-clause-taken c = taken_where c.self.inside.tree (tables_of c.self.inside.frames c.self.inside.mailboxes.items c.self.inside.inputs.items) c.args.path c.args.facts c.args.self.now (ap (λ v. v.objects) (sym c.self.view_is)) c.in-Err.no c.in-Err.ensures.err.0

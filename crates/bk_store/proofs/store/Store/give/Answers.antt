@@ -14,11 +14,11 @@ pub invariant_of-self : goal.invariant_of-self
 invariant_of-self c =
     let (facts, at) = at_slot c.self.inside.tree c.args.path c.unwrap-slot.result (sym c.unwrap-slot.ensures ∙ c.find.ensures.value) in
     subst (λ m. IsStore c.self.inside.lines m c.self.inside.access (tables_of c.self.inside.frames c.self.inside.mailboxes.items c.self.inside.inputs.items)) (sym (c.set_row.ensures c.args.path facts at))
-    (store-row c.self.inside.tree c.args.path c.unwrap-slot.result.n facts c.add.new.self at c.self.inside.lines c.self.inside.access c.self.inside.access (tables_of c.self.inside.frames c.self.inside.mailboxes.items c.self.inside.inputs.items) refl (λ k none s. refl) c.self.invariant)
+    (store-row c.self.inside.tree c.args.path c.unwrap-slot.result.n facts c.given-row.result at c.self.inside.lines c.self.inside.access c.self.inside.access (tables_of c.self.inside.frames c.self.inside.mailboxes.items c.self.inside.inputs.items) refl (λ k none s. refl) c.self.invariant)
 
 pub returns : goal.returns
 returns c =
     let (facts, at) = at_slot c.self.inside.tree c.args.path c.unwrap-slot.result (sym c.unwrap-slot.ensures ∙ c.find.ensures.value) in
-    row-changed c.self.inside.levels c.self.inside.lines c.self.inside.tree c.set_row.new.self c.self.inside.access (tables_of c.self.inside.frames c.self.inside.mailboxes.items c.self.inside.inputs.items) c.args.path c.unwrap-slot.result.n facts (given c.args.subject c.args.modes) c.add.new.self at
-    (c.add.ensures ∙ ap (λ f. given c.args.subject c.args.modes f.row) (c.facts-row.ensures c.args.path facts at)) (c.set_row.ensures c.args.path facts at)
+    row-changed c.self.inside.levels c.self.inside.lines c.self.inside.tree c.set_row.new.self c.self.inside.access (tables_of c.self.inside.frames c.self.inside.mailboxes.items c.self.inside.inputs.items) c.args.path c.unwrap-slot.result.n facts (given c.args.subject c.args.modes) c.given-row.result at
+    (c.given-row.ensures.row ∙ ap (λ f. given c.args.subject c.args.modes f.row) (c.facts-held.ensures c.args.path facts at)) (c.set_row.ensures c.args.path facts at)
     ∙ ap (with_given c.args.subject c.args.path c.args.modes) c.self.view_is

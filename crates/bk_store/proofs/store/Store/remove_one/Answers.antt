@@ -8,8 +8,8 @@ use Rattle.bk_store.proofs.Entries.{get-entry, its_slot}
 use Rattle.bk_store.proofs.Deleted.{store-left, one-left, all-left, below_root}
 use Rattle.bk_store.proofs.store.Store.remove_one.Goals as goal
 
-pub clear_object-requires : goal.clear_object-requires
-clear_object-requires c =
+pub drop_all-requires : goal.drop_all-requires
+drop_all-requires c =
     let leaf = c.in-Some.ensures.some in
     c.self.invariant.slots.within leaf.path c.in-Some.place.n (its_slot c.self.inside.tree leaf.path c.in-Some.place.n leaf.facts leaf.there)
 
@@ -21,8 +21,8 @@ remove_leaf-requires c =
 pub invariant_of-self : goal.invariant_of-self
 invariant_of-self c =
     let leaf = c.in-Some.ensures.some in
-    subst (λ m. IsStore c.self.inside.lines m c.clear_object.new.self (tables_of c.free.new.self c.self.inside.mailboxes.items c.self.inside.inputs.items)) (sym (c.remove_leaf.ensures leaf.path leaf.facts leaf.there))
-    (subst (λ held. IsStore c.self.inside.lines (without c.self.inside.tree leaf.path) held (tables_of c.free.new.self c.self.inside.mailboxes.items c.self.inside.inputs.items)) (sym c.clear_object.ensures)
+    subst (λ m. IsStore c.self.inside.lines m c.drop_all.new.access (tables_of c.free.new.self c.self.inside.mailboxes.items c.self.inside.inputs.items)) (sym (c.remove_leaf.ensures leaf.path leaf.facts leaf.there))
+    (subst (λ held. IsStore c.self.inside.lines (without c.self.inside.tree leaf.path) held (tables_of c.free.new.self c.self.inside.mailboxes.items c.self.inside.inputs.items)) (sym c.drop_all.ensures.held)
     (store-left c.self.inside.lines c.self.inside.tree c.self.inside.access (tables_of c.self.inside.frames c.self.inside.mailboxes.items c.self.inside.inputs.items) c.self.invariant leaf.path c.in-Some.place.n leaf.facts leaf.there (below_root c.args.of leaf.path c.requires leaf.inferior) c.free.new.self c.free.ensures.extents c.free.ensures.room c.free.ensures.apart))
 
 pub returns-in-Some-clause-some : goal.returns-in-Some-clause-some
@@ -32,7 +32,7 @@ returns-in-Some-clause-some c = λ _.
       path = leaf.path;
       inferior = leaf.inferior;
       was = ap (λ v. is_some (get v.objects leaf.path)) (sym c.self.view_is) ∙ ap is_some (get-entry c.self.inside.tree (tables_of c.self.inside.frames c.self.inside.mailboxes.items c.self.inside.inputs.items) leaf.path ∙ ap (option_map (entry_of (tables_of c.self.inside.frames c.self.inside.mailboxes.items c.self.inside.inputs.items))) leaf.there);
-      gone = (λ i. store_of c.self.inside.levels c.self.inside.lines (c.remove_leaf.ensures leaf.path leaf.facts leaf.there i) (c.clear_object.ensures i) (tables_of c.free.new.self c.self.inside.mailboxes.items c.self.inside.inputs.items))
+      gone = (λ i. store_of c.self.inside.levels c.self.inside.lines (c.remove_leaf.ensures leaf.path leaf.facts leaf.there i) (c.drop_all.ensures.held i) (tables_of c.free.new.self c.self.inside.mailboxes.items c.self.inside.inputs.items))
           ∙ one-left c.self.inside.lines c.self.inside.tree c.self.inside.access (tables_of c.self.inside.frames c.self.inside.mailboxes.items c.self.inside.inputs.items) c.self.invariant leaf.path c.in-Some.place.n leaf.facts leaf.there (below_root c.args.of leaf.path c.requires leaf.inferior) c.free.new.self c.free.ensures.extents c.free.ensures.room c.free.ensures.apart c.self.inside.levels
           ∙ ap (without_one leaf.path) c.self.view_is;
     }
