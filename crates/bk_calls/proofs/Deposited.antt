@@ -5,8 +5,8 @@ use Rattle.bk_path.specs.Paths.{Path}
 use Rattle.bk_object.specs.declared.Facts.{Facts}
 use Rattle.bk_quota.specs.Charges.{passes}
 use Rattle.bk_state.specs.State.{Object, facts_at, find}
-use Rattle.bk_state.specs.Answers.{with_contents, with_word}
-use Rattle.bk_state.specs.Changes.{changed_at, changed_by}
+use Rattle.bk_state.specs.Contents.{with_contents, with_word}
+use Rattle.bk_state.specs.RowCalls.{changed_at, changed_by}
 use Rattle.bk_store.specs.Stored.{Stored, facts_in, objects_of, written, written_by}
 use Rattle.bk_calls.specs.declared.caller.Caller.{Caller}
 use Rattle.bk_calls.specs.Made.{seen_by}

@@ -12,10 +12,11 @@ use Rattle.bk_tree.specs.declared.tree.TreeNo.{TreeNo}
 use Rattle.bk_tree.specs.declared.tree.TreeNo.TheVariants.{Taken, Quota as OverQuota}
 use Rattle.bk_tree.specs.Kept.{HasBlocks, HasQuota, IsFit}
 use Rattle.bk_state.specs.State.{State, Object}
-use Rattle.bk_state.specs.Checks.{new_facts, has_room}
+use Rattle.bk_state.specs.KernelCall.{has_room}
 use Rattle.bk_state.specs.Quota.{level_number}
-use Rattle.bk_state.specs.Changes.{changed}
-use Rattle.bk_state.specs.Calls.{call_refusal, is_no_object, is_outside, kind_from, path_in, request_in}
+use Rattle.bk_state.specs.Request.{is_outside, kind_from, new_facts, path_in, request_in}
+use Rattle.bk_state.specs.TreeCalls.{is_no_object}
+use Rattle.bk_state.specs.Calls.{call_refusal, changed}
 use Rattle.bk_state.specs.declared.call.Call.TheVariants.{ByRule}
 use Rattle.bk_state.specs.declared.rule.Rule.TheVariants.{Create}
 use Rattle.bk_store.specs.Stored.{Entry, Stored, Fits, HasDirectory, IsCreated, IsFreeLine, cell_of, fresh, level_number as level_in_store}

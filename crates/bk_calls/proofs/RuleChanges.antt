@@ -1,31 +1,36 @@
 -- What is made of a call of a rule that no check refuses.
-use Rattle.std.proofs.Common.{◌≡◌, ◌≢◌, ℕ, ◌<◌, Bool, true, false, ◌||◌, List, [], ◌∷◌, length, take, Option, Some, None, refl, sym, ap, subst, ◌∙◌, arith}
+use Rattle.std.proofs.Common.{◌≡◌, ◌≢◌, ◌*◌, ℕ, ◌<◌, Bool, true, false, ◌||◌, List, [], ◌∷◌, length, take, Option, Some, None, refl, sym, ap, subst, ◌∙◌, arith}
 use Rattle.std.specs.Prelude.{is_none, is_some, nat_le, slice_index, option_map, find as first, if◌then◌else◌}
 use Rattle.std.proofs.lemmas.List.{length-replicate}
 use Rattle.std.proofs.lemmas.Bool.Decides.{nat_tests}
 use Rattle.std.specs.FinMap as finite
 use Rattle.bk_object.specs.declared.modes.Modes.{Modes}
 use Rattle.bk_object.specs.Modes.{Read, Execute, Write, Append}
+use Rattle.bk_object.specs.Limits.{words_of_block}
 use Rattle.bk_object.specs.Rows.{given, rescinded}
 use Rattle.bk_path.specs.Paths.{Path, is_root}
 use Rattle.bk_process.specs.declared.process.Process.{Process}
 use Rattle.bk_rules.specs.Decisions.{is_get}
 use Rattle.bk_state.specs.State.{State, Fixed, Object, find, facts_at}
-use Rattle.bk_state.specs.Checks.{Cause, Request, checks, fails, refusal, modes_of}
-use Rattle.bk_state.specs.Calls.{breaks_bounds, is_outside, call_refusal, path_in, request_in}
-use Rattle.bk_state.specs.Changes.{changed, changed_by, with_row, without_triples}
+use Rattle.bk_state.specs.Request.{Request, is_outside, path_in, request_in}
+use Rattle.bk_state.specs.KernelCall.{fails}
+use Rattle.bk_state.specs.AccessCalls.{without_triples}
+use Rattle.bk_state.specs.RowCalls.{changed_by, with_row}
+use Rattle.bk_state.specs.Calls.{call_refusal, changed, refusal, rule_call, rule_checks}
+use Rattle.bk_state.specs.declared.cause.Cause.{Cause}
 use Rattle.bk_state.specs.Answers.{outcome, reply, with_values}
 use Rattle.bk_state.specs.declared.call.Call.TheVariants.{ByRule}
 use Rattle.bk_state.specs.declared.rule.Rule.{Rule}
 use Rattle.bk_state.specs.declared.rule.Rule.TheVariants.{GetRead, GetAppend, GetExecute, GetWrite, Release, Give, Rescind, Create, DeleteGroup}
 use Rattle.bk_store.specs.Stored.{Entry, Stored, IsThere, with_held, without_held, with_given, with_rescinded, without_group}
+use Rattle.bk_store.specs.Joined.{kernel_blocks}
 use Rattle.bk_store.specs.Stands.{StandsFor}
 use Rattle.bk_store.proofs.Stands.{stands-held, stands-released, stands-given, stands-rescinded, stands-deleted}
-use Rattle.bk_calls.specs.Made.{seen_by, made_by, IsMade}
+use Rattle.bk_calls.specs.Made.{line_byte, seen_by, made_by, IsMade}
 use Rattle.bk_calls.specs.declared.caller.Caller.{Caller}
 use Rattle.bk_calls.specs.declared.reply.Answer.TheVariants.{Yes}
 use Rattle.bk_calls.specs.declared.reply.Reply.{Reply}
-use Rattle.bk_calls.proofs.RuleChecks.{refusal-by, refusal_by, no_path}
+use Rattle.bk_calls.proofs.RuleChecks.{is_wrong, refusal-after, refusal_after, no_path}
 use Rattle.bk_calls.proofs.Seen.{facts-seen, subjects-seen, stands-seen, with_lines}
 use Rattle.bk_calls.proofs.Serving.{agreed-made}
 
@@ -80,17 +85,17 @@ module _ (caller : Caller) (store : Stored) (words general : List ℕ) (rule : R
   abbrev v : State
   v = seen_by caller store words
 
-  both_none : (a b : Bool) (later : Option Cause) → refusal_by a b later ≡ None → (b ≡ false) × (later ≡ None)
+  both_none : (a b : Bool) (later : Option Cause) → refusal_after a b later ≡ None → (b ≡ false) × (later ≡ None)
   both_none true b later e = cc
   both_none false true later e = cc
   both_none false false later e = (refl, e)
 
-  pub bounds-kept : breaks_bounds v rule general ≡ false
-  bounds-kept = (both_none (no_path v caller.subject general) (breaks_bounds v rule general) (refusal v caller.subject rule (request_in general)) (sym (refusal-by v caller.subject general rule) ∙ none)).0
+  pub bounds-kept : is_wrong v rule general ≡ false
+  bounds-kept = (both_none (no_path v caller.subject general) (is_wrong v rule general) (refusal v caller.subject rule (request_in general)) (sym (refusal-after v caller.subject general rule) ∙ none)).0
 
-  pub checks-passed : AllPass (fails v caller.subject rule (request_in general)) (checks rule)
+  pub checks-passed : AllPass (fails v caller.subject (rule_call rule) (request_in general)) (rule_checks rule)
   unfolding refusal
-  checks-passed = all-pass (fails v caller.subject rule (request_in general)) (checks rule) (both_none (no_path v caller.subject general) (breaks_bounds v rule general) (refusal v caller.subject rule (request_in general)) (sym (refusal-by v caller.subject general rule) ∙ none)).1
+  checks-passed = all-pass (fails v caller.subject (rule_call rule) (request_in general)) (rule_checks rule) (both_none (no_path v caller.subject general) (is_wrong v rule general) (refusal v caller.subject rule (request_in general)) (sym (refusal-after v caller.subject general rule) ∙ none)).1
 
 -- an object that is there in the state is there in the store
 pub there-seen : (caller : Caller) (store : Stored) (words : List ℕ) (path : Path) → is_none (facts_at (seen_by caller store words) path) ≡ false → IsThere store path
@@ -128,7 +133,7 @@ pub object-there : (caller : Caller) (store : Stored) (general : List ℕ) (rule
     ((words : List ℕ) → call_refusal (seen_by caller store words) caller.subject (ByRule rule) general ≡ None) → IsThere store path
 object-there caller store general rule path at of none = subst (IsThere store) at (there-seen caller store [] (path_in general) (second rule of (checks-passed caller store [] general rule (none []))))
   where
-    second : (r : Rule) → is_of_object r ≡ true → AllPass (fails (seen_by caller store []) caller.subject r (request_in general)) (checks r) → is_none (facts_at (seen_by caller store []) (path_in general)) ≡ false
+    second : (r : Rule) → is_of_object r ≡ true → AllPass (fails (seen_by caller store []) caller.subject (rule_call r) (request_in general)) (rule_checks r) → is_none (facts_at (seen_by caller store []) (path_in general)) ≡ false
     second GetRead h passed = passed.1.0
     second GetAppend h passed = passed.1.0
     second GetExecute h passed = passed.1.0
@@ -139,37 +144,55 @@ object-there caller store general rule path at of none = subst (IsThere store) a
     second Create h passed = cc
     second DeleteGroup h passed = passed.1.0
 
+-- what a rule gives: R0 and R1 are 0, the process changes no further, and no byte goes out
+pub record GivesNothing (rule : Rule) (v : State) (s : ℕ) (request : Request) (process : Process) : Type 0 where
+  pub gives : (rule_call rule).gives v s request ≡ 0 ∷ 0 ∷ []
+  pub alters : (rule_call rule).alters request process ≡ process
+  pub sends : (rule_call rule).sends v request ≡ None
+
+gives-nothing : (rule : Rule) (v : State) (s : ℕ) (request : Request) (process : Process) → GivesNothing rule v s request process
+gives-nothing GetRead v s request process = record { gives = refl; alters = refl; sends = refl }
+gives-nothing GetAppend v s request process = record { gives = refl; alters = refl; sends = refl }
+gives-nothing GetExecute v s request process = record { gives = refl; alters = refl; sends = refl }
+gives-nothing GetWrite v s request process = record { gives = refl; alters = refl; sends = refl }
+gives-nothing Release v s request process = record { gives = refl; alters = refl; sends = refl }
+gives-nothing Give v s request process = record { gives = refl; alters = refl; sends = refl }
+gives-nothing Rescind v s request process = record { gives = refl; alters = refl; sends = refl }
+gives-nothing Create v s request process = record { gives = refl; alters = refl; sends = refl }
+gives-nothing DeleteGroup v s request process = record { gives = refl; alters = refl; sends = refl }
+
 -- a rule that none of its checks refuses, and whose change the store has made
 pub rule-made : (caller : Caller) (store after : Stored) (words words_after : List ℕ) (process process_after : Process) (told : Reply) (rule : Rule) →
     ((ws : List ℕ) → call_refusal (seen_by caller store ws) caller.subject (ByRule rule) process.registers.general ≡ None) →
     StandsFor after words_after (changed (with_lines store (seen_by caller store words)) caller.subject rule (request_in process.registers.general)) →
-    take 2048 words_after ≡ take 2048 words → process_after ≡ with_values (0 ∷ 0 ∷ []) process → told ≡ record { answer = Yes; sent = None } →
+    take (words_of_block * kernel_blocks) words_after ≡ take (words_of_block * kernel_blocks) words → process_after ≡ with_values (0 ∷ 0 ∷ []) process → told ≡ record { answer = Yes; sent = None } →
     IsMade store after words words_after process_after told (made_by caller store words process (ByRule rule))
-unfolding outcome reply
+unfolding outcome reply changed
 rule-made caller store after words words_after process process_after told rule none stands kernel became is =
     let v = seen_by caller store words in
     let request = request_in process.registers.general in
     let same = changed-lines store v caller.subject rule request in
     let fixed = changed-fixed (with_lines store v) caller.subject rule request in
+    let nothing = gives-nothing rule v caller.subject request process in
     agreed-made caller store words process process_after told (ByRule rule) after words_after (none words) (record {
       objects = stands.objects ∙ ap (λ (x : State). x.objects) same;
       access = stands.access ∙ ap (λ (x : State). x.access) same;
       levels = stands.levels ∙ ap (λ (f : Fixed). f.levels) fixed;
       lines = stands.lines ∙ ap (λ (f : Fixed). length f.lines) fixed ∙ length-replicate store.lines 0;
-      process = became;
+      process = became ∙ (λ i. with_values (sym nothing.gives i) (sym nothing.alters i));
       answer = ap (λ (r : Reply). r.answer) is;
-      sent = ap (λ (r : Reply). r.sent) is;
+      sent = ap (λ (r : Reply). r.sent) is ∙ ap (option_map line_byte) (sym nothing.sends);
       kernel = kernel;
     })
 
 -- the subject holds the object by the mode of the rule too
 pub stands-got : (caller : Caller) (store : Stored) (words : List ℕ) (s : ℕ) (rule : Rule) (request : Request) (path : Path) (modes : Modes) → is_get rule ≡ true →
-    request.path ≡ path → modes ≡ modes_of rule request.modes →
+    request.path ≡ path → modes ≡ (rule_call rule).modes request →
     StandsFor (with_held s path modes store) words (changed (with_lines store (seen_by caller store words)) s rule request)
 unfolding changed
 stands-got caller store words s rule request path modes get at is = subst (λ p. StandsFor (with_held s p modes store) words (changed (with_lines store (seen_by caller store words)) s rule request)) at (subst (λ m. StandsFor (with_held s request.path m store) words (changed (with_lines store (seen_by caller store words)) s rule request)) (sym is) (by rule get))
   where
-    by : (r : Rule) → is_get r ≡ true → StandsFor (with_held s request.path (modes_of r request.modes) store) words (changed (with_lines store (seen_by caller store words)) s r request)
+    by : (r : Rule) → is_get r ≡ true → StandsFor (with_held s request.path ((rule_call r).modes request) store) words (changed (with_lines store (seen_by caller store words)) s r request)
     by GetRead h = stands-held store words (with_lines store (seen_by caller store words)) (stands-seen caller store words) s request.path Read
     by GetAppend h = stands-held store words (with_lines store (seen_by caller store words)) (stands-seen caller store words) s request.path Append
     by GetExecute h = stands-held store words (with_lines store (seen_by caller store words)) (stands-seen caller store words) s request.path Execute
@@ -189,7 +212,7 @@ subject-there caller store general rule of none = subst (λ n. slice_index gener
     below true n m e = cc
     below false n m e = grind (arith, nat_tests)
 
-    by : (r : Rule) → is_given r ≡ true → breaks_bounds (seen_by caller store []) r general ≡ false → slice_index general 4 < length (seen_by caller store []).fixed.subjects
+    by : (r : Rule) → is_given r ≡ true → is_wrong (seen_by caller store []) r general ≡ false → slice_index general 4 < length (seen_by caller store []).fixed.subjects
     by GetRead h kept = cc
     by GetAppend h kept = cc
     by GetExecute h kept = cc

@@ -11,7 +11,8 @@ use Rattle.bk_quota.specs.Charges.{passes, charge_of}
 use Rattle.bk_quota.specs.Usage.{Usage}
 use Rattle.bk_state.specs.Named.{is_named}
 use Rattle.bk_state.specs.State.{State, Object, find, facts_at, clearance_of}
-use Rattle.bk_state.specs.Checks.{Request, has_room, new_facts}
+use Rattle.bk_state.specs.Request.{Request, new_facts}
+use Rattle.bk_state.specs.KernelCall.{has_room}
 use Rattle.bk_state.specs.Quota.{level_number}
 use Rattle.bk_store.specs.Stored.{Entry, Stored, HasDirectory, object_of, facts_in, holds, cell_of, level_number as level_in_store}
 use Rattle.bk_store.specs.Stands.{StandsFor}

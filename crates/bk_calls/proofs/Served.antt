@@ -8,7 +8,7 @@ use Rattle.bk_path.specs.Orders.{path_total, path_apart, same_path, ties-same}
 use Rattle.bk_object.specs.declared.Facts.{Facts}
 use Rattle.bk_quota.specs.Charges.{passes}
 use Rattle.bk_state.specs.State.{State, Object, find}
-use Rattle.bk_state.specs.Changes.{changed_at as state_changed_at, changed_by as state_changed_by}
+use Rattle.bk_state.specs.RowCalls.{changed_at as state_changed_at, changed_by as state_changed_by}
 use Rattle.bk_store.specs.Stored.{Entry, Stored, changed_at, changed_by, facts_in, object_of, objects_of}
 use Rattle.bk_store.proofs.Stands.{get-objects_of, objects_of-insert}
 use Rattle.bk_calls.specs.declared.caller.Caller.{Caller}

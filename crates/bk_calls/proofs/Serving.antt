@@ -1,20 +1,22 @@
 -- What was made of a service that was refused, or that was answered yes.
-use Rattle.std.proofs.Common.{◌≡◌, ℕ, Bool, true, false, List, [], ◌∷◌, ◌++◌, Option, Some, None, Result, Ok, Err, refl, sym, ap, subst, ◌∙◌}
-use Rattle.std.specs.Prelude.{nat_lt, option_map, find as first, if◌then◌else◌}
+use Rattle.std.proofs.Common.{◌≡◌, ℕ, Bool, true, false, List, [], ◌∷◌, ◌++◌, Some, None, Result, Ok, Err, refl, sym, ap, subst, ◌∙◌}
+use Rattle.std.specs.Prelude.{find as first, if◌then◌else◌}
 use Rattle.bk_process.specs.declared.process.Process.{Process}
 use Rattle.bk_state.specs.declared.call.Call.{Call}
 use Rattle.bk_state.specs.declared.call.Call.TheVariants.{Other}
 use Rattle.bk_state.specs.declared.call.Service.{Service}
-use Rattle.bk_state.specs.declared.call.Service.TheVariants.{Window, Unwindow, Deposit, Send, Receive, LineOut, LineIn, Entry, Identify, Quota, Pause, SetFaultEntry, Stop}
-use Rattle.bk_state.specs.Checks.{Cause, TooLong, Empty, cause_number}
+use Rattle.bk_state.specs.declared.call.Service.TheVariants.{Window, Unwindow, Deposit, Send, Receive, LineOut, LineIn, Entry, Identify, Quota}
+use Rattle.bk_state.specs.declared.call.Service.TheVariants.{Pause, SetFaultEntry, Stop}
+use Rattle.bk_state.specs.declared.cause.Cause.{Cause}
+use Rattle.bk_state.specs.declared.cause.Cause.TheVariants.{TooLong, Empty}
+use Rattle.bk_state.specs.Causes.{answer_number, cause_number}
 use Rattle.bk_state.specs.Calls.{call_fails, call_refusal}
 use Rattle.bk_state.specs.Answers.{answered_by, answered_yes, with_values}
 use Rattle.bk_store.specs.Stored.{Stored, objects_of}
-use Rattle.bk_calls.specs.Made.{seen_by, made_by, IsMade}
+use Rattle.bk_calls.specs.Made.{answer_of, seen_by, made_by, IsMade}
 use Rattle.bk_calls.specs.Reached.{front, front_refusal, IsReached, Reaches}
 use Rattle.bk_calls.specs.declared.reach.Reached.{Reached}
 use Rattle.bk_calls.specs.declared.caller.Caller.{Caller}
-use Rattle.bk_calls.specs.declared.reply.Answer.TheVariants.{No, Unknown}
 use Rattle.bk_calls.specs.declared.reply.Reply.{Reply}
 
 -- where none of the first checks fails, the others decide
@@ -27,12 +29,11 @@ first-later f (a ∷ early) late none = by (f a) none (first-later f early late)
     by false e rest = rest e
 
 -- and else they decide
-first-early : {A : Type 0} (f : A → Bool) (g : A → ℕ) (early late : List A) (n : ℕ) → option_map g (first f early) ≡ Some n → option_map g (first f (early ++ late)) ≡ Some n
-first-early f g [] late n some = cc
-first-early f g (a ∷ early) late n some = by (f a) some (first-early f g early late n)
+first-early : {A : Type 0} (f : A → Bool) (early late : List A) (x : A) → first f early ≡ Some x → first f (early ++ late) ≡ Some x
+first-early f [] late x some = cc
+first-early f (a ∷ early) late x some = by (f a) some (first-early f early late x)
   where
-    by : (b : Bool) → option_map g (if b then Some a else first f early) ≡ Some n → (option_map g (first f early) ≡ Some n → option_map g (first f (early ++ late)) ≡ Some n) →
-        option_map g (if b then Some a else first f (early ++ late)) ≡ Some n
+    by : (b : Bool) → (if b then Some a else first f early) ≡ Some x → (first f early ≡ Some x → first f (early ++ late) ≡ Some x) → (if b then Some a else first f (early ++ late)) ≡ Some x
     by true e rest = e
     by false e rest = rest e
 
@@ -90,10 +91,10 @@ module _ (caller : Caller) (store : Stored) (words : List ℕ) where
   checks-split Stop general h = cc
 
   -- what the front refuses, the call refuses
-  pub refused-early : (service : Service) (general : List ℕ) (cause : ℕ) → is_of_object service ≡ true →
-      option_map cause_number (front_refusal caller store words service general) ≡ Some cause →
-      option_map cause_number (call_refusal (seen_by caller store words) caller.subject (Other service) general) ≡ Some cause
-  refused-early service general cause h e = ap (option_map cause_number) (checks-split service general h) ∙ first-early (fails service general) cause_number front (last_check service) cause e
+  pub refused-early : (service : Service) (general : List ℕ) (cause : Cause) → is_of_object service ≡ true →
+      front_refusal caller store words service general ≡ Some cause →
+      call_refusal (seen_by caller store words) caller.subject (Other service) general ≡ Some cause
+  refused-early service general cause h e = checks-split service general h ∙ first-early (fails service general) front (last_check service) cause e
 
   -- past the front, the last check decides
   pub decided-late : (service : Service) (general : List ℕ) → is_of_object service ≡ true → front_refusal caller store words service general ≡ None →
@@ -101,31 +102,25 @@ module _ (caller : Caller) (store : Stored) (words : List ℕ) where
   decided-late service general h e = checks-split service general h ∙ first-later (fails service general) front (last_check service) e
 
   module _ (process process_after : Process) (reply : Reply) (call : Call) where
-    same_number : (why : Cause) (cause : ℕ) → Some (cause_number why) ≡ Some cause → cause_number why ≡ cause
-    same_number why cause e = cc
-
     -- a refused call, after which the objects stand as before
-    pub refused-after : (after : Stored) (cause : ℕ) → objects_of after words ≡ objects_of store words → after.access ≡ store.access → after.levels ≡ store.levels → after.lines ≡ store.lines →
-        option_map cause_number (call_refusal (seen_by caller store words) caller.subject call process.registers.general) ≡ Some cause →
-        process_after ≡ with_values ((if nat_lt cause 20 then 1 else 2) ∷ cause ∷ []) process → reply ≡ record { answer = (if nat_lt cause 20 then No cause else Unknown cause); sent = None } →
+    pub refused-after : (after : Stored) (cause : Cause) → objects_of after words ≡ objects_of store words → after.access ≡ store.access → after.levels ≡ store.levels → after.lines ≡ store.lines →
+        call_refusal (seen_by caller store words) caller.subject call process.registers.general ≡ Some cause →
+        process_after ≡ with_values (answer_number cause ∷ cause_number cause ∷ []) process → reply ≡ record { answer = answer_of (Some cause); sent = None } →
         IsMade store after words words process_after reply (made_by caller store words process call)
-    refused-after after cause objects access levels lines refusal became told = by (call_refusal (seen_by caller store words) caller.subject call process.registers.general) refusal
-      where
-        by : (o : Option Cause) → option_map cause_number o ≡ Some cause → IsMade store after words words process_after reply (answered_by (seen_by caller store words) caller.subject process call o)
-        by None e = cc
-        by (Some why) e = record {
+    refused-after after cause objects access levels lines refusal became told =
+        subst (λ o. IsMade store after words words process_after reply (answered_by (seen_by caller store words) caller.subject process call o)) (sym refusal) (record {
           objects = objects;
           access = access;
           levels = levels;
           lines = lines;
-          process = became ∙ ap (λ n. with_values ((if nat_lt n 20 then 1 else 2) ∷ n ∷ []) process) (sym (same_number why cause e));
-          answer = ap (λ (r : Reply). r.answer) told ∙ ap (λ n. if nat_lt n 20 then No n else Unknown n) (sym (same_number why cause e));
+          process = became;
+          answer = ap (λ (r : Reply). r.answer) told;
           sent = ap (λ (r : Reply). r.sent) told;
           kernel = refl;
-        }
+        })
 
-    pub refused-made : (cause : ℕ) → option_map cause_number (call_refusal (seen_by caller store words) caller.subject call process.registers.general) ≡ Some cause →
-        process_after ≡ with_values ((if nat_lt cause 20 then 1 else 2) ∷ cause ∷ []) process → reply ≡ record { answer = (if nat_lt cause 20 then No cause else Unknown cause); sent = None } →
+    pub refused-made : (cause : Cause) → call_refusal (seen_by caller store words) caller.subject call process.registers.general ≡ Some cause →
+        process_after ≡ with_values (answer_number cause ∷ cause_number cause ∷ []) process → reply ≡ record { answer = answer_of (Some cause); sent = None } →
         IsMade store store words words process_after reply (made_by caller store words process call)
     refused-made cause = refused-after store cause refl refl refl refl
 
@@ -136,21 +131,21 @@ module _ (caller : Caller) (store : Stored) (words : List ℕ) where
     agreed-made after words_after none made = subst (λ o. IsMade store after words words_after process_after reply (answered_by (seen_by caller store words) caller.subject process call o)) (sym none) made
 
   -- what was told where the object isn't reached
-  told : (service : Service) (general : List ℕ) (r : Result Reached ℕ) (cause : ℕ) → Reaches caller store service general r → r ≡ Err cause → option_map cause_number (front_refusal caller store words service general) ≡ Some cause
-  told service general r cause reaches is = let reach : Reaches caller store service general (Err cause) = subst (λ (x : Result Reached ℕ). Reaches caller store service general x) is reaches in reach words
+  told : (service : Service) (general : List ℕ) (r : Result Reached Cause) (cause : Cause) → Reaches caller store service general r → r ≡ Err cause → front_refusal caller store words service general ≡ Some cause
+  told service general r cause reaches is = let reach : Reaches caller store service general (Err cause) = subst (λ (x : Result Reached Cause). Reaches caller store service general x) is reaches in reach words
 
   -- and what was found where it is
-  pub found : (service : Service) (general : List ℕ) (r : Result Reached ℕ) (reached : Reached) → Reaches caller store service general r → r ≡ Ok reached → IsReached store service general reached
-  found service general r reached reaches is = let reach : Reaches caller store service general (Ok reached) = subst (λ (x : Result Reached ℕ). Reaches caller store service general x) is reaches in reach.0
+  pub found : (service : Service) (general : List ℕ) (r : Result Reached Cause) (reached : Reached) → Reaches caller store service general r → r ≡ Ok reached → IsReached store service general reached
+  found service general r reached reaches is = let reach : Reaches caller store service general (Ok reached) = subst (λ (x : Result Reached Cause). Reaches caller store service general x) is reaches in reach.0
 
-  pub decided : (service : Service) (general : List ℕ) (r : Result Reached ℕ) (reached : Reached) → is_of_object service ≡ true → Reaches caller store service general r → r ≡ Ok reached →
+  pub decided : (service : Service) (general : List ℕ) (r : Result Reached Cause) (reached : Reached) → is_of_object service ≡ true → Reaches caller store service general r → r ≡ Ok reached →
       call_refusal (seen_by caller store words) caller.subject (Other service) general ≡ first (fails service general) (last_check service)
-  decided service general r reached h reaches is = let reach : Reaches caller store service general (Ok reached) = subst (λ (x : Result Reached ℕ). Reaches caller store service general x) is reaches in decided-late service general h (reach.1 words)
+  decided service general r reached h reaches is = let reach : Reaches caller store service general (Ok reached) = subst (λ (x : Result Reached Cause). Reaches caller store service general x) is reaches in decided-late service general h (reach.1 words)
 
   -- a service whose object isn't reached
-  pub refused-reach : (process process_after : Process) (reply : Reply) (service : Service) (r : Result Reached ℕ) (cause : ℕ) → is_of_object service ≡ true →
+  pub refused-reach : (process process_after : Process) (reply : Reply) (service : Service) (r : Result Reached Cause) (cause : Cause) → is_of_object service ≡ true →
       Reaches caller store service process.registers.general r → r ≡ Err cause →
-      process_after ≡ with_values ((if nat_lt cause 20 then 1 else 2) ∷ cause ∷ []) process → reply ≡ record { answer = (if nat_lt cause 20 then No cause else Unknown cause); sent = None } →
+      process_after ≡ with_values (answer_number cause ∷ cause_number cause ∷ []) process → reply ≡ record { answer = answer_of (Some cause); sent = None } →
       IsMade store store words words process_after reply (made_by caller store words process (Other service))
   refused-reach process process_after reply service r cause h reaches is =
       refused-made process process_after reply (Other service) cause (refused-early service process.registers.general cause h (told service process.registers.general r cause reaches is))

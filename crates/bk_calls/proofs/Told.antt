@@ -8,7 +8,7 @@ use Rattle.bk_object.specs.declared.Facts.{Facts}
 use Rattle.bk_quota.specs.Usage.{Usage}
 use Rattle.bk_state.specs.Quota.{governing, quota_at, used}
 use Rattle.bk_state.specs.State.{State}
-use Rattle.bk_state.specs.Calls.{child_at}
+use Rattle.bk_state.specs.TellingCalls.{child_at}
 use Rattle.bk_store.specs.Stands.{StandsFor}
 use Rattle.bk_store.specs.Stored.{Stored, cell_of, facts_in}
 use Rattle.bk_store.proofs.Stands.{stands-cell}

@@ -1,17 +1,28 @@
 -- A call made on a store, a core and a process, against the call that the definitions give.
-use Rattle.std.specs.Prelude.{◌≡◌, ℕ, List, [], Option, Some, None, nat_lt, replicate, take, option_map, if◌then◌else◌}
+use Rattle.std.specs.Prelude.{◌≡◌, ◌<◌, ◌≤◌, ◌*◌, ℕ, List, [], length, Option, Some, None, replicate, take, option_map, if◌then◌else◌}
+use Rattle.bk_object.specs.Limits.{words_of_block}
+use Rattle.bk_object.specs.Rows.{most_subjects}
 use Rattle.bk_process.specs.declared.process.Process.{Process}
 use Rattle.bk_state.specs.State.{State}
-use Rattle.bk_state.specs.Checks.{Cause, cause_number}
+use Rattle.bk_state.specs.Causes.{cause_number, is_no}
+use Rattle.bk_state.specs.declared.cause.Cause.{Cause}
 use Rattle.bk_state.specs.declared.call.Call.{Call}
 use Rattle.bk_state.specs.Calls.{call_refusal}
 use Rattle.bk_state.specs.Answers.{Called, answered_by}
+use Rattle.bk_store.specs.Joined.{kernel_blocks}
 use Rattle.bk_store.specs.Stored.{Stored, objects_of}
 use Rattle.bk_calls.specs.declared.caller.Caller.{Caller}
 use Rattle.bk_calls.specs.declared.reply.Answer.{Answer}
 use Rattle.bk_calls.specs.declared.reply.Answer.TheVariants.{Yes, No, Unknown}
 use Rattle.bk_calls.specs.declared.reply.LineByte.{LineByte}
 use Rattle.bk_calls.specs.declared.reply.Reply.{Reply}
+
+-- the caller is one of the subjects, which are not too many, and the store has its levels
+pub record IsCaller (caller : Caller) (store : Stored) : Type 0 where
+  pub subject : caller.subject < caller.subjects
+  pub subjects : caller.subjects ≤ most_subjects
+  pub greatest : caller.f_s < length store.levels
+  pub current : caller.f_c < length store.levels
 
 -- The state, as far as a call of the caller looks at it: levels, objects and current access set; of the subjects their
 -- number and the caller's levels (those of all others stand as the caller's, and no call looks at them).
@@ -29,10 +40,10 @@ seen_by caller store words = record {
   processes = [];
 }
 
--- the answer that a cause gives: no up to 11, `?` from 20 on
+-- the answer that a cause gives: no, or `?`
 abbrev pub answer_of : Option Cause → Answer
 answer_of None = Yes
-answer_of (Some cause) = if nat_lt (cause_number cause) 20 then No (cause_number cause) else Unknown (cause_number cause)
+answer_of (Some cause) = if is_no cause then No (cause_number cause) else Unknown (cause_number cause)
 
 abbrev pub line_byte : ℕ × ℕ → LineByte
 line_byte sent = record { line = sent.0; byte = sent.1 }
@@ -46,7 +57,7 @@ pub record IsMade (before after : Stored) (words_before words_after : List ℕ) 
   pub process : process_after ≡ x.process
   pub answer : reply.answer ≡ answer_of x.cause
   pub sent : reply.sent ≡ option_map line_byte x.sent
-  pub kernel : take 2048 words_after ≡ take 2048 words_before
+  pub kernel : take (words_of_block * kernel_blocks) words_after ≡ take (words_of_block * kernel_blocks) words_before
 
 -- what a call by the caller comes to
 abbrev pub made_by : Caller → Stored → (words : List ℕ) → Process → Call → Called

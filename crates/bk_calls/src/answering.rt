@@ -1,23 +1,36 @@
 // The answer of a call, in the registers and to the kernel.
 
-ghost use Rattle.std.specs.Prelude.{◌≡◌, ◌≤◌, [], ◌∷◌, length, nat_lt, if◌then◌else◌};
+ghost use Rattle.std.specs.Prelude.{◌≡◌, ◌≤◌, [], ◌∷◌, length, Some};
 ghost use Rattle.bk_state.specs.Answers.{with_values};
+ghost use Rattle.bk_state.specs.Causes.{answer_number, cause_number};
+ghost use Rattle.bk_calls.specs.Made.{answer_of};
 
 use crate::reply::{Answer, Reply};
 use bk_process::Process;
+use bk_state::Cause;
 
-// The caller finds 1 or 2 in R0 and the cause in R1, and nothing else changes.
-pub(crate) fn refuse(process: &mut Process, cause: u8) -> Reply
-    ensures process { process.new ≡ with_values ((if nat_lt cause 20 then 1 else 2) ∷ cause ∷ []) process.old }
-    ensures reply { result ≡ record { answer = (if nat_lt cause 20 then Answer.No cause else Answer.Unknown cause); sent = None } }
+// The caller finds the answer in R0 and the cause in R1, and nothing else changes.
+pub(crate) fn refuse(process: &mut Process, cause: Cause) -> Reply
+    ensures process { process.new ≡ with_values (answer_number cause ∷ cause_number cause ∷ []) process.old }
+    ensures reply { result ≡ record { answer = answer_of (Some cause); sent = None } }
 {
-    let (number, answer) = if cause < 20 {
-        (1, Answer::No(cause))
+    let values = [u16::from(cause.answer()), u16::from(cause.number())];
+    set_values(process, &values);
+    Reply {
+        answer: answer_for(cause),
+        sent: None,
+    }
+}
+
+// No or `?`, with the number of the cause.
+fn answer_for(cause: Cause) -> Answer
+    ensures { result ≡ answer_of (Some cause) }
+{
+    if cause.is_no() {
+        Answer::No(cause.number())
     } else {
-        (2, Answer::Unknown(cause))
-    };
-    set_values(process, &[number, u16::from(cause)]);
-    Reply { answer, sent: None }
+        Answer::Unknown(cause.number())
+    }
 }
 
 // The caller finds these values in R0 and the registers after it.

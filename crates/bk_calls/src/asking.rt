@@ -4,10 +4,11 @@ ghost use Rattle.std.specs.Prelude.{◌≡◌, ◌<◌, ◌&&◌, ◌∷◌, [],
 ghost use Rattle.std.specs.List.{list_any};
 ghost use Rattle.bk_object.specs.Kinds.{is_directory};
 ghost use Rattle.bk_object.specs.Modes.{has, Read, Execute, Write, Append};
+ghost use Rattle.bk_object.specs.Rows.{most_subjects};
 ghost use Rattle.bk_path.specs.Paths.{unpack};
 ghost use Rattle.bk_quota.specs.Charges.{passes};
-ghost use Rattle.bk_state.specs.Calls.{path_in, request_in};
 ghost use Rattle.bk_state.specs.Named as model;
+ghost use Rattle.bk_state.specs.Request.{path_in, request_in};
 ghost use Rattle.bk_store.specs.Stored.{all_modes, facts_in, holds};
 ghost use Rattle.bk_calls.specs.Made.{seen_by};
 
@@ -36,7 +37,7 @@ pub(crate) fn modes_of(process: &Process) -> Modes
 /// Whether the caller may name the object: it is root, or its parent is a directory that the subject holds by read or by
 /// write.
 pub(crate) fn is_named(store: &Store, subject: u8, path: Path) -> bool
-    requires { subject < 32 }
+    requires { subject < most_subjects }
     ensures { (caller : Caller) (words : List ℕ) → result ≡ model.is_named (seen_by caller store.now words) subject path }
 {
     match path.parent() {
@@ -47,7 +48,7 @@ pub(crate) fn is_named(store: &Store, subject: u8, path: Path) -> bool
 
 /// Whether the subject holds the object by write.
 pub(crate) fn writes(store: &Store, subject: u8, path: Path) -> bool
-    requires { subject < 32 }
+    requires { subject < most_subjects }
     ensures { result ≡ holds store.now subject path Write }
 {
     holds_one_of(store, subject, path, Modes::W)
@@ -55,7 +56,7 @@ pub(crate) fn writes(store: &Store, subject: u8, path: Path) -> bool
 
 /// Whether the subject holds the object by read or by write.
 pub(crate) fn reads_or_writes(store: &Store, subject: u8, path: Path) -> bool
-    requires { subject < 32 }
+    requires { subject < most_subjects }
     ensures { result ≡ list_any (holds store.now subject path) (Read ∷ Write ∷ []) }
 {
     holds_one_of(store, subject, path, Modes::from_bits_retain(5))
@@ -63,7 +64,7 @@ pub(crate) fn reads_or_writes(store: &Store, subject: u8, path: Path) -> bool
 
 /// Whether the subject holds the object by write or by append.
 pub(crate) fn writes_or_appends(store: &Store, subject: u8, path: Path) -> bool
-    requires { subject < 32 }
+    requires { subject < most_subjects }
     ensures { result ≡ list_any (holds store.now subject path) (Write ∷ Append ∷ []) }
 {
     holds_one_of(store, subject, path, Modes::from_bits_retain(12))
@@ -71,7 +72,7 @@ pub(crate) fn writes_or_appends(store: &Store, subject: u8, path: Path) -> bool
 
 /// Whether the subject holds the object by read, execute or write: the modes by which a window can show it.
 pub(crate) fn can_show(store: &Store, subject: u8, path: Path) -> bool
-    requires { subject < 32 }
+    requires { subject < most_subjects }
     ensures { result ≡ list_any (holds store.now subject path) (Read ∷ Execute ∷ Write ∷ []) }
 {
     holds_one_of(store, subject, path, Modes::from_bits_retain(7))
@@ -79,7 +80,7 @@ pub(crate) fn can_show(store: &Store, subject: u8, path: Path) -> bool
 
 // Whether the subject holds the object by one of the modes.
 fn holds_one_of(store: &Store, subject: u8, path: Path, modes: Modes) -> bool
-    requires { subject < 32 }
+    requires { subject < most_subjects }
     ensures { result ≡ list_any (λ mode. has modes mode && holds store.now subject path mode) all_modes }
 {
     have_common(modes, store.held(subject, path))

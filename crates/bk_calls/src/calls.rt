@@ -1,24 +1,23 @@
 // A kernel call, by its number.
 
-ghost use Rattle.std.specs.Prelude.{◌≡◌, ◌<◌, ◌≤◌, length};
+ghost use Rattle.std.specs.Prelude.{◌≡◌};
 ghost use Rattle.bk_state.specs.Answers.{called};
 ghost use Rattle.bk_state.specs.Calls as model;
-ghost use Rattle.bk_calls.specs.Made.{made_by, seen_by, IsMade};
+ghost use Rattle.bk_calls.specs.Made.{made_by, seen_by, IsCaller, IsMade};
 
+use crate::access_calls::{get, release};
 use crate::answering::refuse;
 use crate::caller::Caller;
-use crate::causes::NO_CALL;
-use crate::directories::{entry, quota};
-use crate::lines::{line_in, line_out};
-use crate::mail::{receive, send};
-use crate::process::{identify, pause, set_fault_entry, stop, unwindow};
+use crate::process_calls::{pause, set_fault_entry, stop};
+use crate::queue_calls::{line_in, line_out, receive, send};
 use crate::reply::Reply;
-use crate::rules::{create, delete_group, get, give, release, rescind};
-use crate::segments::deposit;
-use crate::windows::window;
+use crate::row_calls::{give, rescind};
+use crate::segment_calls::{deposit, unwindow, window};
+use crate::telling_calls::{entry, identify, quota};
+use crate::tree_calls::{create, delete_group};
 use bk_core::Core;
 use bk_process::Process;
-use bk_state::{Call, Rule, Service};
+use bk_state::{Call, Cause, Rule, Service};
 use bk_store::Store;
 
 /// The call of that number, by the caller, with its registers as they are in the process: the checks in their order, the
@@ -31,16 +30,13 @@ pub fn call(
     caller: &Caller,
     number: u8,
 ) -> Reply
-    requires subject { caller.now.subject < caller.now.subjects }
-    requires subjects { caller.now.subjects ≤ 32 }
-    requires greatest { caller.now.f_s < length store.old.levels }
-    requires current { caller.now.f_c < length store.old.levels }
+    requires { IsCaller caller.now store.old }
     ensures { IsMade store.old store.new core.old.words core.new.words process.new result (called (seen_by caller.now store.old core.old.words) caller.now.subject process.old number) }
 {
     match call_of(number) {
         Some(Call::ByRule(rule)) => decide_rule(store, core, process, caller, rule),
         Some(Call::Other(service)) => serve(store, core, process, caller, service),
-        None => refuse(process, NO_CALL),
+        None => refuse(process, Cause::NoCall),
     }
 }
 
@@ -83,10 +79,7 @@ fn decide_rule(
     caller: &Caller,
     rule: Rule,
 ) -> Reply
-    requires subject { caller.now.subject < caller.now.subjects }
-    requires subjects { caller.now.subjects ≤ 32 }
-    requires greatest { caller.now.f_s < length store.old.levels }
-    requires current { caller.now.f_c < length store.old.levels }
+    requires { IsCaller caller.now store.old }
     ensures { IsMade store.old store.new core.old.words core.new.words process.new result (made_by caller.now store.old core.old.words process.old (Call.ByRule rule)) }
 {
     match rule {
@@ -109,8 +102,7 @@ fn serve(
     caller: &Caller,
     service: Service,
 ) -> Reply
-    requires subject { caller.now.subject < caller.now.subjects }
-    requires subjects { caller.now.subjects ≤ 32 }
+    requires { IsCaller caller.now store.old }
     ensures { IsMade store.old store.new core.old.words core.new.words process.new result (made_by caller.now store.old core.old.words process.old (Call.Other service)) }
 {
     match service {

@@ -1,13 +1,13 @@
 // What the rules look at, of an object and of its parent.
 
-ghost use Rattle.std.specs.Prelude.{◌≡◌, ◌<◌, ◌≤◌, ℕ, List, length, option_map, unwrap_or};
+ghost use Rattle.std.specs.Prelude.{◌≡◌, ◌<◌, ℕ, List, option_map, unwrap_or};
 ghost use Rattle.bk_level.specs.Levels.{level_at, lowest};
 ghost use Rattle.bk_object.specs.Modes.{no_modes};
-ghost use Rattle.bk_object.specs.Rows.{in_row};
+ghost use Rattle.bk_object.specs.Rows.{in_row, most_subjects};
 ghost use Rattle.bk_path.specs.Paths.{is_root, parent};
-ghost use Rattle.bk_state.specs.Checks.{Request};
+ghost use Rattle.bk_state.specs.Request.{Request};
 ghost use Rattle.bk_calls.specs.Decided.{facts_there};
-ghost use Rattle.bk_calls.specs.Made.{seen_by};
+ghost use Rattle.bk_calls.specs.Made.{seen_by, IsCaller};
 
 use crate::asking::{is_named, writes};
 use crate::caller::Caller;
@@ -15,17 +15,14 @@ use bitflags::Flags;
 use bk_level::Level;
 use bk_object::{Facts, Kind, Modes};
 use bk_path::Path;
-use bk_rules::{Rule, RuleFacts};
+use bk_rules::RuleFacts;
 use bk_store::Store;
 
 /// What every rule but create looks at, for the object at the path and these modes; of a new object nothing is said.
 pub(crate) fn facts_there(store: &Store, caller: &Caller, path: Path, modes: Modes) -> RuleFacts
-    requires subject { caller.now.subject < caller.now.subjects }
-    requires subjects { caller.now.subjects ≤ 32 }
-    requires greatest { caller.now.f_s < length store.now.levels }
-    requires current { caller.now.f_c < length store.now.levels }
-    ensures { (words : List ℕ) (rule : Rule) (request : Request) → request.path ≡ path → request.modes ≡ modes →
-        result ≡ facts_there (seen_by caller.now store.now words) caller.now.subject rule request }
+    requires { IsCaller caller.now store.now }
+    ensures { (words : List ℕ) (request : Request) → request.path ≡ path → request.modes ≡ modes →
+        result ≡ facts_there (seen_by caller.now store.now words) caller.now.subject request }
 {
     let object = store.facts(path);
     RuleFacts {
@@ -72,7 +69,7 @@ fn kind_of(object: Option<Facts>) -> Kind
 
 // The subject's modes in the object's row; none where there is no object.
 fn row_of(object: Option<Facts>, subject: u8) -> Modes
-    requires { subject < 32 }
+    requires { subject < most_subjects }
     ensures { result ≡ unwrap_or (option_map (λ facts. in_row facts.row subject) object) no_modes }
 {
     match object {

@@ -1,31 +1,34 @@
 //! The kernel calls of a process, over a store, a core and the process.
 //!
-//! Model: `specs/Made.antt` (`seen_by`, `IsMade`), over `bk_state`'s `call_of`, `call_refusal` and `called`.
+//! Model: `specs/Made.antt` (`seen_by`, `IsMade`: what was made of store, core and process is what the call comes to),
+//! `specs/Decided.antt` (what the checks of a rule find), `specs/Reached.antt` (what those of a service find), over
+//! `bk_state`'s definition of each call.
 //! Calls: `call`.
 //! Proved: a call makes exactly what the definition of its number gives: the first check that fails and its answer, or the
 //! change of objects, accesses and process, the values in the registers, and the byte sent; core below block 64 stays.
-//! Stands on: `bitflags`, `bk_base`, `bk_core`, `bk_frames`, `bk_level`, `bk_object`, `bk_path`, `bk_process`, `bk_queue`,
-//! `bk_quota`, `bk_rules`, `bk_space`, `bk_state`, `bk_store`, `bk_tree`.
+//! Tested: worked calls, whose values the definitions give and no clause spells out, one after another on one store.
+//! Neither: nothing.
+//! Stands on: `bitflags`, `bk_base`, `bk_core`, `bk_frames`, `bk_level`, `bk_object`, `bk_path`, `bk_process`, `bk_queue`, `bk_quota`, `bk_rules`, `bk_space`, `bk_state`, `bk_store`, `bk_tree`.
 #![tactic(auto)]
 
+mod access_calls;
+mod allowing;
 mod answering;
 mod asking;
 mod caller;
 mod calls;
-mod causes;
-mod directories;
 mod facts;
-mod lines;
-mod mail;
 mod new_object;
-mod process;
+mod process_calls;
+mod queue_calls;
 mod reach;
 mod reply;
-mod rules;
-mod segments;
+mod row_calls;
+mod segment_calls;
+mod telling_calls;
 #[cfg(test)]
 mod tests;
-mod windows;
+mod tree_calls;
 
 pub use caller::Caller;
 pub use calls::call;

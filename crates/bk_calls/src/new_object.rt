@@ -1,13 +1,14 @@
 // What create looks at, and the object that it makes.
 
-ghost use Rattle.std.specs.Prelude.{◌≡◌, ◌==◌, ◌<◌, ◌≤◌, ◌&&◌, not, nat_le, ℕ, List, if◌then◌else◌, length, slice_index};
+ghost use Rattle.std.specs.Prelude.{◌≡◌, ◌==◌, ◌<◌, ◌&&◌, not, nat_le, ℕ, List, if◌then◌else◌, length, slice_index};
 ghost use Rattle.bk_object.specs.Kinds.{is_directory};
 ghost use Rattle.bk_path.specs.Paths.{parent};
-ghost use Rattle.bk_rules.specs.Decisions.{answer, facts_of};
-ghost use Rattle.bk_state.specs.Calls as model;
-ghost use Rattle.bk_state.specs.Checks as checks;
+ghost use Rattle.bk_rules.specs.Decisions.{facts_of, refusal_by};
+ghost use Rattle.bk_state.specs.KernelCall.{has_room};
+ghost use Rattle.bk_state.specs.Request as model;
+ghost use Rattle.bk_state.specs.TreeCalls.{is_no_object};
 ghost use Rattle.bk_store.specs.Stored as stored;
-ghost use Rattle.bk_calls.specs.Made.{seen_by};
+ghost use Rattle.bk_calls.specs.Made.{seen_by, IsCaller};
 
 use crate::asking::{is_directory, modes_of};
 use crate::caller::Caller;
@@ -15,7 +16,7 @@ use crate::facts::{facts_there, level_at, level_of, parent_of};
 use bk_object::{Facts, Kind, Row};
 use bk_path::Path;
 use bk_process::Process;
-use bk_quota::charge_of;
+use bk_quota::{LARGEST_QUOTA, charge_of};
 use bk_rules::{Rule, RuleFacts};
 use bk_store::Store;
 
@@ -26,13 +27,10 @@ pub(crate) fn facts_of_new(
     caller: &Caller,
     path: Path,
 ) -> RuleFacts
-    requires subject { caller.now.subject < caller.now.subjects }
-    requires subjects { caller.now.subjects ≤ 32 }
-    requires greatest { caller.now.f_s < length store.now.levels }
-    requires current { caller.now.f_c < length store.now.levels }
+    requires caller { IsCaller caller.now store.now }
     requires path { model.path_in process.now.registers.general ≡ path }
     requires level { slice_index process.now.registers.general 4 < length store.now.levels }
-    ensures { (words : List ℕ) → answer result Rule.Create ≡ answer (facts_of (seen_by caller.now store.now words) caller.now.subject Rule.Create (model.request_in process.now.registers.general)) Rule.Create }
+    ensures { (words : List ℕ) → refusal_by result Rule.Create ≡ refusal_by (facts_of (seen_by caller.now store.now words) caller.now.subject (model.request_in process.now.registers.general)) Rule.Create }
 {
     store.law_levels();
     let above = parent_of(path);
@@ -48,7 +46,7 @@ pub(crate) fn facts_of_new(
 fn has_room(store: &Store, process: &Process, above: Path) -> bool
     requires { slice_index process.now.registers.general 4 < length store.now.levels }
     ensures { stored.HasDirectory store.now above → (caller : Caller) (words : List ℕ) → parent (model.path_in process.now.registers.general) ≡ above →
-        result ≡ checks.has_room (seen_by caller store.now words) (model.request_in process.now.registers.general) }
+        result ≡ has_room (seen_by caller store.now words) (model.request_in process.now.registers.general) }
 {
     if !is_directory(store, above) {
         return false;
@@ -64,7 +62,7 @@ fn has_room(store: &Store, process: &Process, above: Path) -> bool
 /// directory alone.
 pub(crate) fn new_facts(process: &Process, above: u8) -> Facts
     requires { slice_index process.now.registers.general 4 < 256 }
-    ensures { result ≡ checks.new_facts (model.request_in process.now.registers.general) above }
+    ensures { result ≡ model.new_facts (model.request_in process.now.registers.general) above }
 {
     let general = process.registers.general;
     let kind = kind_from(general[3] / 256);
@@ -121,10 +119,10 @@ pub(crate) fn has_level(store: &Store, n: u16) -> bool
 /// Whether nobody creates such an object: a kind over 2, a number of blocks that isn't the kind's, or a directory with a
 /// quota that isn't 1 to 3,904.
 pub(crate) fn is_no_object(kind: u16, blocks: u16, quota: u16) -> bool
-    ensures { result ≡ model.is_no_object kind blocks quota }
+    ensures { result ≡ is_no_object kind blocks quota }
 {
     match kind {
-        0 => blocks != 0 || quota < 1 || quota > 3904,
+        0 => blocks != 0 || quota < 1 || quota > LARGEST_QUOTA,
         1 => blocks < 1 || blocks > 128,
         2 => blocks != 0,
         _ => true,

@@ -1,20 +1,75 @@
 // The checks that the services have in common: the path, the argument, the object there, its kind, and how it is held.
 
-ghost use Rattle.std.specs.Prelude.{◌≡◌, ◌<◌};
+ghost use Rattle.std.specs.Prelude.{◌≡◌, ◌<◌, IfOk, IsFalse};
 ghost use Rattle.std.specs.List.{list_any};
-ghost use Rattle.bk_state.specs.Calls as model;
+ghost use Rattle.bk_object.specs.Rows.{most_subjects};
+ghost use Rattle.bk_state.specs.declared.call.Service.{Service as ServiceValue};
 ghost use Rattle.bk_store.specs.Stored.{holds};
-ghost use Rattle.bk_calls.specs.Reached.{Reaches};
+ghost use Rattle.bk_calls.specs.Reached.{is_of, modes_in, Reaches, Suits};
 
 use crate::asking::{can_show, is_named, path_of, reads_or_writes, writes, writes_or_appends};
 use crate::caller::Caller;
-use crate::causes::{BAD_ARGUMENT, NO_PATH, NOT_HELD};
 use bk_object::{Facts, Kind};
 use bk_path::Path;
 use bk_process::Process;
-use bk_rules::{NO_OBJECT, NOT_NAMED, WRONG_KIND};
-use bk_state::Service;
+use bk_state::Cause;
 use bk_store::Store;
+
+// What kind of object a service is for.
+#[derive(Clone, Copy, Debug)]
+pub(crate) enum Sort {
+    Directory,
+    Segment,
+    Mailbox,
+    Line,
+}
+
+impl Sort {
+    // Whether the kind is of the sort.
+    fn has(self, kind: Kind) -> bool
+        ensures { result ≡ is_of self kind }
+    {
+        match self {
+            Sort::Directory => kind == Kind::Directory,
+            Sort::Segment => kind == Kind::Segment,
+            Sort::Mailbox => kind == Kind::Mailbox,
+            Sort::Line => matches!(kind, Kind::Line(_)),
+        }
+    }
+}
+
+// The modes of which the caller has to hold one.
+#[derive(Clone, Copy, Debug)]
+pub(crate) enum Needs {
+    Write,
+    ReadOrWrite,
+    WriteOrAppend,
+    ReadExecuteOrWrite,
+}
+
+impl Needs {
+    // Whether the subject holds the object by one of them.
+    fn are_met(self, store: &Store, subject: u8, path: Path) -> bool
+        requires { subject < most_subjects }
+        ensures { result ≡ list_any (holds store.now subject path) (modes_in self) }
+    {
+        match self {
+            Needs::Write => writes(store, subject, path),
+            Needs::ReadOrWrite => reads_or_writes(store, subject, path),
+            Needs::WriteOrAppend => writes_or_appends(store, subject, path),
+            Needs::ReadExecuteOrWrite => can_show(store, subject, path),
+        }
+    }
+}
+
+// What a service asks for: whether its arguments are outside their ranges, the sort of object that it is for, and how the
+// caller has to hold it.
+#[derive(Clone, Copy, Debug)]
+pub(crate) struct Asked {
+    pub is_wrong: bool,
+    pub sort: Sort,
+    pub needs: Needs,
+}
 
 // The object that a service is asked for.
 #[derive(Clone, Copy, Debug)]
@@ -23,80 +78,35 @@ pub(crate) struct Reached {
     pub facts: Facts,
 }
 
-// The object at the path in R1 and R2, of the kind that the service is for, and held by one of the modes that it needs; or
-// else the number of the cause.
+// The object at the path in R1 and R2, of the sort that is asked for, and held by one of the modes that are needed; or else
+// the cause.
 pub(crate) fn reach(
     store: &Store,
     process: &Process,
     caller: &Caller,
-    service: Service,
-) -> Result<Reached, u8>
-    requires { caller.now.subject < 32 }
-    ensures { Reaches caller.now store.now service process.now.registers.general result }
+    asked: Asked,
+) -> Result<Reached, Cause>
+    requires { caller.now.subject < most_subjects }
+    ensures reached { (service : ServiceValue) → Suits asked service process.now.registers.general → Reaches caller.now store.now service process.now.registers.general result }
+    ensures argument { IfOk result (λ reached. IsFalse asked.is_wrong) }
 {
     let Some(path) = path_of(process) else {
-        return Err(NO_PATH);
+        return Err(Cause::NoPath);
     };
-    if is_wrong(service, process) {
-        return Err(BAD_ARGUMENT);
+    if asked.is_wrong {
+        return Err(Cause::BadArgument);
     }
     if !is_named(store, caller.subject, path) {
-        return Err(NOT_NAMED);
+        return Err(Cause::NotNamed);
     }
     let Some(facts) = store.facts(path) else {
-        return Err(NO_OBJECT);
+        return Err(Cause::NoObject);
     };
-    if !is_for(service, facts.kind) {
-        return Err(WRONG_KIND);
+    if !asked.sort.has(facts.kind) {
+        return Err(Cause::WrongKind);
     }
-    if !is_held(store, caller.subject, path, service) {
-        return Err(NOT_HELD);
+    if !asked.needs.are_met(store, caller.subject, path) {
+        return Err(Cause::NotHeld);
     }
     Ok(Reached { path, facts })
-}
-
-// Whether the service's argument in R3 is out of its bounds, or that in R4.
-fn is_wrong(service: Service, process: &Process) -> bool
-    ensures { result ≡ model.is_wrong service process.now.registers.general }
-{
-    let argument = process.registers.general[3];
-    match service {
-        Service::Window | Service::Unwindow => argument > 31,
-        Service::Deposit => argument % 2 == 1,
-        Service::Entry => argument > 15,
-        Service::SetFaultEntry => argument > 7 || process.registers.general[4] % 2 == 1,
-        Service::Send | Service::Receive | Service::LineOut | Service::LineIn => false,
-        Service::Identify | Service::Quota | Service::Pause | Service::Stop => false,
-    }
-}
-
-// Whether the service is for objects of the kind.
-fn is_for(service: Service, kind: Kind) -> bool
-    ensures { result ≡ model.is_for service kind }
-{
-    match service {
-        Service::Window | Service::Deposit => kind == Kind::Segment,
-        Service::Send | Service::Receive => kind == Kind::Mailbox,
-        Service::LineOut | Service::LineIn => matches!(kind, Kind::Line(_)),
-        Service::Entry | Service::Quota => kind == Kind::Directory,
-        Service::Unwindow | Service::Identify | Service::Pause => true,
-        Service::SetFaultEntry | Service::Stop => true,
-    }
-}
-
-// Whether the subject holds the object by one of the modes that the service needs.
-fn is_held(store: &Store, subject: u8, path: Path, service: Service) -> bool
-    requires { subject < 32 }
-    ensures { result ≡ list_any (holds store.now subject path) (model.needed_for service) }
-{
-    match service {
-        Service::Window => can_show(store, subject, path),
-        Service::Deposit | Service::Send | Service::LineOut => {
-            writes_or_appends(store, subject, path)
-        }
-        Service::Receive | Service::LineIn => writes(store, subject, path),
-        Service::Entry | Service::Quota => reads_or_writes(store, subject, path),
-        Service::Unwindow | Service::Identify | Service::Pause => false,
-        Service::SetFaultEntry | Service::Stop => false,
-    }
 }

@@ -1,14 +1,13 @@
-// Worked cases of each call, with expected values from the description of the calls.
+// Worked calls, with expected values from the description of the calls.
 
 mod fixture;
-mod refusals;
 mod steps;
 
 use crate::Answer::{No, Unknown, Yes};
 use crate::LineByte;
-use fixture::{System, begun, held, sample};
+use fixture::{System, sample};
 use std::process::Abort;
-use steps::{FIRST, FIRST_BELOW, Row, SECOND, answers, answers_from, sends, step, tells};
+use steps::{FIRST, Row, SECOND, answers, sends, step, tells};
 
 // The words of paths of one entry and of two, the first of them 1.
 const ROOT: u16 = 0o000000;
@@ -21,10 +20,36 @@ const CHILD_2: u16 = 0o011000;
 
 const BELOW_1: [u16; 5] = [0o020400, 0o020420, 0o020440, 0o020460, 0o020500];
 
-// A subject at level 0 that may append to a segment of one block at level 1.
-const APPENDING: [Row; 7] = [
-    (FIRST, 0o10, [0, CHILD_1, 0, 0o401, 1, 0], Yes), // a segment of one block at level 1
+// The second subject of the sample tells what it may.
+const TELLING: [(Row, [u16; 6]); 4] = [
+    (
+        (SECOND, 0o21, [0, ROOT, 0, 2, 0, 0], Yes),
+        [0, 0, 0o1401, 1, 4, 4],
+    ),
+    (
+        (SECOND, 0o21, [0, ROOT, 0, 5, 0, 0], No(9)),
+        [1, 9, 0, 5, 0, 0],
+    ),
+    (
+        (SECOND, 0o23, [0, ROOT, 0, 0, 0, 0], Yes),
+        [0, 0, 0o20, 4, 0, 0],
+    ),
+    ((SECOND, 0o22, [7, 7, 7, 7, 7, 7], Yes), [0, 0, 1, 1, 1, 7]),
+];
+
+#[test]
+fn tells_a_subject_of_the_sample(rt: HostRuntime) {
+    let mut system = sample(&rt, rt.alloc());
+    tells(&rt, &mut system, &TELLING);
+}
+
+// By one who holds r on root and not w, and at level 0: a segment of one block at level 1, whose row grants a. Before that the
+// first subject makes the segment, and gives up w.
+const APPENDING: [Row; 9] = [
+    (FIRST, 0o11, [0, CHILD_1, 0, 0, 0, 0], Yes),
+    (FIRST, 0o10, [0, CHILD_1, 0, 0o401, 1, 0], Yes),
     (FIRST, 0o6, [0, CHILD_1, 0, 8, 0, 0], Yes),
+    (FIRST, 0o5, [0, ROOT, 0, 4, 0, 0], Yes),
     (FIRST, 0o2, [0, CHILD_1, 0, 0, 0, 0], Yes),
     (FIRST, 0o14, [0, CHILD_1, 0, 0o76, 0o177777, 0], Yes),
     (FIRST, 0o14, [0, CHILD_1, 0, 0o100, 0, 0], No(10)),
@@ -34,11 +59,13 @@ const APPENDING: [Row; 7] = [
 
 #[test]
 fn appends_to_a_higher_segment(rt: HostRuntime) {
-    answers_from(&rt, begun(&rt, rt.alloc()), &APPENDING);
+    let mut system = sample(&rt, rt.alloc());
+    answers(&rt, &mut system, &APPENDING);
 }
 
-// What is below a directory of which nothing is held isn't named, nor is what is below a segment that is held.
+// What is below a directory of which nothing is held isn't named, nor is what is below a segment that is held by w.
 const NAMING: [Row; 12] = [
+    (FIRST, 0o11, [0, CHILD_1, 0, 0, 0, 0], Yes),
     (FIRST, 0o10, [0, CHILD_1, 0, 0, 0, 5], Yes),
     (FIRST, 0o6, [0, CHILD_1, 0, 1, 0, 0], Yes),
     (FIRST, 0o1, [0, BELOW_1[2], 0, 0, 0, 0], Unknown(22)),
@@ -47,7 +74,6 @@ const NAMING: [Row; 12] = [
     (FIRST, 0o1, [0, 0o100000, 0, 0, 0, 0], Unknown(21)),
     (FIRST, 0o27, [0, 0, 0, 0, 0, 0], Unknown(20)),
     (FIRST, 0, [0, 0, 0, 0, 0, 0], Unknown(20)),
-    (FIRST, 0o10, [0, CHILD_0, 0, 0o401, 0, 0], Yes),
     (FIRST, 0o6, [0, CHILD_0, 0, 4, 0, 0], Yes),
     (FIRST, 0o4, [0, CHILD_0, 0, 0, 0, 0], Yes),
     (FIRST, 0o1, [0, 0o020020, 0, 0, 0, 0], Unknown(22)),
@@ -55,11 +81,13 @@ const NAMING: [Row; 12] = [
 
 #[test]
 fn names_what_is_below_a_held_directory(rt: HostRuntime) {
-    answers_from(&rt, begun(&rt, rt.alloc()), &NAMING);
+    let mut system = sample(&rt, rt.alloc());
+    answers(&rt, &mut system, &NAMING);
 }
 
 // A mailbox at a higher level.
-const MAILBOX: [Row; 4] = [
+const MAILBOX: [Row; 5] = [
+    (FIRST, 0o11, [0, CHILD_1, 0, 0, 0, 0], Yes),
     (FIRST, 0o10, [0, CHILD_1, 0, 0o1000, 1, 0], Yes),
     (FIRST, 0o6, [0, CHILD_1, 0, 8, 0, 0], Yes),
     (FIRST, 0o6, [0, CHILD_1, 0, 4, 1, 0], Yes),
@@ -80,36 +108,33 @@ fn receives_sixteen(rt: &impl Abort, system: &mut System) {
     }
 }
 
-// Seventeen messages to an empty mailbox at a higher level: sixteen wait, and the first that is received tells of one lost.
+// Seventeen messages to an empty mailbox at a higher level, each answered yes: sixteen wait, and the first that is received
+// tells of one lost.
 #[test]
 fn loses_the_seventeenth_message(rt: HostRuntime) {
-    let mut system = begun(&rt, rt.alloc());
+    let mut system = sample(&rt, rt.alloc());
     answers(&rt, &mut system, &MAILBOX);
     sends_seventeen(&rt, &mut system);
-    step(
-        &rt,
-        &mut system,
-        &(SECOND, 0o4, [0, CHILD_1, 0, 0, 0, 0], Yes),
-    );
+    let get_write = (SECOND, 0o4, [0, CHILD_1, 0, 0, 0, 0], Yes);
+    step(&rt, &mut system, &get_write);
     receives_sixteen(&rt, &mut system);
-    step(
-        &rt,
-        &mut system,
-        &(SECOND, 0o16, [0, CHILD_1, 0, 0, 0, 0], No(9)),
-    );
+    let receive = (SECOND, 0o16, [0, CHILD_1, 0, 0, 0, 0], No(9));
+    step(&rt, &mut system, &receive);
 }
 
-// Below root an upgraded directory with a quota of 5, and below that segments of one block. The cell of root is told at the
-// third call and after the last.
-const CREATING: [Row; 2] = [
-    (FIRST, 0o11, [0, CHILD_2, 0, 0, 0, 0], Yes), // root is alone
+// Root is alone. Below it an upgraded directory with a quota of 5, and below that segments of one block. The cell of root is
+// told before these, and at the end.
+const CREATING: [Row; 4] = [
+    (FIRST, 0o11, [0, CHILD_0, 0, 0, 0, 0], Yes),
+    (FIRST, 0o11, [0, CHILD_1, 0, 0, 0, 0], Yes),
+    (FIRST, 0o11, [0, CHILD_2, 0, 0, 0, 0], Yes),
     (FIRST, 0o10, [0, CHILD_1, 0, 0, 1, 5], Yes),
 ];
 
-const WITHIN_QUOTA: [Row; 17] = [
+const WITHIN_QUOTA: [Row; 15] = [
     (FIRST, 0o6, [0, CHILD_1, 0, 5, 1, 0], Yes),
     (SECOND, 0o1, [0, CHILD_1, 0, 0, 0, 0], Yes),
-    (SECOND, 0o10, [0, BELOW_1[0], 0, 0o401, 0, 0], No(4)), // a lower level too
+    (SECOND, 0o10, [0, BELOW_1[0], 0, 0o401, 1, 0], No(4)),
     (SECOND, 0o4, [0, CHILD_1, 0, 0, 0, 0], Yes),
     (SECOND, 0o10, [0, BELOW_1[0], 0, 0o401, 1, 0], Yes),
     (SECOND, 0o10, [0, BELOW_1[1], 0, 0o401, 1, 0], Yes),
@@ -118,8 +143,6 @@ const WITHIN_QUOTA: [Row; 17] = [
     (SECOND, 0o10, [0, BELOW_1[4], 0, 0o401, 1, 0], No(7)),
     (SECOND, 0o10, [0, BELOW_1[3], 0, 0o401, 1, 0], No(6)),
     (SECOND, 0o10, [0, BELOW_1[4], 0, 0o401, 0, 0], No(5)),
-    (SECOND, 0o10, [0, BELOW_1[3], 0, 0o401, 0, 0], No(5)), // taken too
-    (SECOND, 0o11, [0, ROOT, 0, 0, 0, 0], No(11)), // not written by the caller too
     (SECOND, 0o10, [0, CHILD_0, 0, 0o401, 1, 0], No(4)),
     (SECOND, 0o11, [0, BELOW_1[1], 0, 0, 0, 0], Yes),
     (FIRST, 0o11, [0, CHILD_1, 0, 0, 0, 0], Yes),
@@ -139,199 +162,43 @@ const QUOTA_OF_ROOT: [(Row, [u16; 6]); 2] = [
 
 #[test]
 fn creates_while_the_quota_lasts(rt: HostRuntime) {
-    let mut system = begun(&rt, rt.alloc());
+    let mut system = sample(&rt, rt.alloc());
     answers(&rt, &mut system, &CREATING);
     tells(&rt, &mut system, &QUOTA_OF_ROOT[..1]);
     answers(&rt, &mut system, &WITHIN_QUOTA);
     tells(&rt, &mut system, &QUOTA_OF_ROOT[1..]);
 }
 
-// A segment that is deleted and created anew is held by nobody.
-const RENEWING: [Row; 14] = [
-    (FIRST, 0o10, [0, CHILD_1, 0, 0o401, 0, 0], Yes),
-    (FIRST, 0o6, [0, CHILD_1, 0, 4, 0, 0], Yes),
-    (FIRST, 0o4, [0, CHILD_1, 0, 0, 0, 0], Yes),
-    (FIRST, 0o14, [0, CHILD_1, 0, 0, 0o123, 0], Yes),
-    (FIRST, 0o11, [0, CHILD_1, 0, 0, 0, 0], Yes),
-    (FIRST, 0o14, [0, CHILD_1, 0, 0, 0, 0], Unknown(25)),
-    (FIRST, 0o10, [0, CHILD_1, 0, 0o401, 0, 0], Yes),
-    (FIRST, 0o14, [0, CHILD_1, 0, 0, 0, 0], No(8)),
-    (FIRST, 0o4, [0, CHILD_1, 0, 0, 0, 0], No(1)),
-    (FIRST, 0o6, [0, CHILD_1, 0, 4, 0, 0], Yes),
-    (FIRST, 0o4, [0, CHILD_1, 0, 0, 0, 0], Yes),
-    (FIRST, 0o14, [0, CHILD_1, 0, 0, 0, 0], Yes),
-    (FIRST, 0o7, [0, CHILD_1, 0, 4, 0, 0], Yes),
-    (FIRST, 0o14, [0, CHILD_1, 0, 0, 0, 0], No(8)),
+// The calls that no other case answers yes: get-execute, rescind, window and unwindow; and those that change the process alone.
+const ANSWERED: [Row; 7] = [
+    (FIRST, 0o3, [0, CHILD_0, 0, 0, 0, 0], Yes),
+    (FIRST, 0o12, [0, CHILD_0, 0, 31, 0, 0], Yes),
+    (FIRST, 0o7, [0, CHILD_0, 0, 3, 0, 0], Yes),
+    (FIRST, 0o13, [0, 0, 0, 31, 0, 0], Yes),
+    (FIRST, 0o25, [0, 0, 0, 7, 0o200, 0], Yes),
+    (FIRST, 0o24, [0, 0, 0, 0, 0, 0], Yes),
+    (FIRST, 0o26, [0, 0, 0, 0, 0, 0], Yes),
 ];
 
-#[test]
-fn holds_nothing_of_a_new_object(rt: HostRuntime) {
-    answers_from(&rt, begun(&rt, rt.alloc()), &RENEWING);
-}
-
-// A typed byte is read, and goes out again on the line.
+// A typed byte is read.
 const LINE_IN: [(Row, [u16; 6]); 1] = [(
     (SECOND, 0o20, [0, CHILD_2, 0, 0, 0, 0], Yes),
     [0, 0, 0o150, 0, 0, 0],
 )];
 
+// And a byte goes out on the line.
 #[test]
 fn reads_and_writes_a_line(rt: HostRuntime) {
-    let mut system = begun(&rt, rt.alloc());
+    let mut system = sample(&rt, rt.alloc());
+    answers(&rt, &mut system, &ANSWERED);
     system.store.type_byte(1, 0o150);
     tells(&rt, &mut system, &LINE_IN);
     sends(&rt, &system, None);
-    step(
-        &rt,
-        &mut system,
-        &(SECOND, 0o17, [0, CHILD_2, 0, 0o550, 0, 0], Yes),
-    );
-    sends(
-        &rt,
-        &system,
-        Some(LineByte {
-            line: 1,
-            byte: 0o150,
-        }),
-    );
-    step(
-        &rt,
-        &mut system,
-        &(SECOND, 0o20, [0, CHILD_2, 0, 0, 0, 0], No(9)),
-    );
-}
-
-// The second subject deletes and rescinds below `/1`, a directory of its own level, of which the first one, whose current level
-// is lower, can't come to hold anything. What the first one holds is below root, and there the second does neither. Beside each
-// call stands by what modes the first subject then holds `/0`.
-const TAKING: [(Row, u8); 24] = [
-    ((FIRST, 0o10, [0, CHILD_0, 0, 0o401, 1, 0], Yes), 0), // a segment of level 1
-    ((FIRST, 0o6, [0, CHILD_0, 0, 15, 0, 0], Yes), 0),
-    ((FIRST, 0o6, [0, CHILD_0, 0, 15, 1, 0], Yes), 0),
-    ((FIRST, 0o2, [0, CHILD_0, 0, 0, 0, 0], Yes), 8),
-    ((FIRST, 0o10, [0, CHILD_1, 0, 0, 1, 5], Yes), 8), // a directory of level 1
-    ((FIRST, 0o6, [0, CHILD_1, 0, 5, 0, 0], Yes), 8),
-    ((FIRST, 0o6, [0, CHILD_1, 0, 5, 1, 0], Yes), 8),
-    ((SECOND, 0o4, [0, CHILD_1, 0, 0, 0, 0], Yes), 8),
-    ((SECOND, 0o10, [0, BELOW_1[0], 0, 0o401, 1, 0], Yes), 8),
-    ((SECOND, 0o6, [0, BELOW_1[0], 0, 15, 0, 0], Yes), 8),
-    // The first subject, and one with a higher greatest level too, holds nothing at `/1` or below it.
-    ((FIRST, 0o1, [0, CHILD_1, 0, 0, 0, 0], No(2)), 8),
-    ((FIRST, 0o4, [0, CHILD_1, 0, 0, 0, 0], No(2)), 8),
-    ((FIRST, 0o2, [0, BELOW_1[0], 0, 0, 0, 0], Unknown(22)), 8),
-    ((FIRST_BELOW, 0o1, [0, CHILD_1, 0, 0, 0, 0], No(3)), 8),
-    ((FIRST_BELOW, 0o4, [0, CHILD_1, 0, 0, 0, 0], No(3)), 8),
-    (
-        (FIRST_BELOW, 0o2, [0, BELOW_1[0], 0, 0, 0, 0], Unknown(22)),
-        8,
-    ),
-    // The second subject, on what the first one holds.
-    ((SECOND, 0o4, [0, CHILD_0, 0, 0, 0, 0], Yes), 8),
-    ((SECOND, 0o7, [0, CHILD_0, 0, 8, 0, 0], No(4)), 8),
-    ((SECOND, 0o11, [0, CHILD_0, 0, 0, 0, 0], No(4)), 8),
-    ((SECOND, 0o7, [0, CHILD_1, 0, 8, 0, 0], Unknown(23)), 8),
-    ((SECOND, 0o11, [0, CHILD_1, 0, 0, 0, 0], No(4)), 8),
-    // And below the directory of its level.
-    ((SECOND, 0o7, [0, BELOW_1[0], 0, 15, 0, 0], Yes), 8),
-    ((SECOND, 0o11, [0, BELOW_1[0], 0, 0, 0, 0], Yes), 8),
-    ((FIRST, 0o14, [0, CHILD_0, 0, 0, 0o123, 0], Yes), 8),
-];
-
-fn takes_nothing(rt: &impl Abort, mut system: System, rows: &[(Row, u8)]) {
-    for (row, modes) in rows {
-        step(rt, &mut system, row);
-        keeps(rt, &system, row, ROOT, 5);
-        keeps(rt, &system, row, CHILD_0, *modes);
-        keeps(rt, &system, row, CHILD_1, 0);
-        keeps(rt, &system, row, BELOW_1[0], 0);
-    }
-}
-
-// By those modes the first subject holds the object, once the row's call is made.
-fn keeps(rt: &impl Abort, system: &System, row: &Row, first: u16, modes: u8) {
-    let (caller, number, _, _) = *row;
-    let by = caller.subject;
-    assert_eq!(rt;
-        held(system, 0, first),
-        Some(modes),
-        "after call {number} by {by}"
-    );
-}
-
-#[test]
-fn takes_nothing_from_a_lower_subject(rt: HostRuntime) {
-    takes_nothing(&rt, begun(&rt, rt.alloc()), &TAKING);
-}
-
-// The second subject of the sample, at level 1.
-const SAMPLE: [(Row, [u16; 6]); 6] = [
-    (
-        (SECOND, 0o21, [0, ROOT, 0, 2, 0, 0], Yes),
-        [0, 0, 0o1401, 1, 4, 4],
-    ),
-    (
-        (SECOND, 0o21, [0, ROOT, 0, 5, 0, 0], No(9)),
-        [1, 9, 0, 5, 0, 0],
-    ),
-    (
-        (SECOND, 0o23, [0, ROOT, 0, 0, 0, 0], Yes),
-        [0, 0, 0o20, 4, 0, 0],
-    ),
-    ((SECOND, 0o22, [7, 7, 7, 7, 7, 7], Yes), [0, 0, 1, 1, 1, 7]),
-    (
-        (SECOND, 0o21, [0, ROOT, 0, 0, 0, 0], Yes),
-        [0, 0, 0o401, 0, 2, 3],
-    ),
-    (
-        (SECOND, 0o21, [0, ROOT, 0, 1, 0, 0], Yes),
-        [0, 0, 0o1400, 0, 0, 0],
-    ),
-];
-
-#[test]
-fn tells_a_subject_of_the_sample(rt: HostRuntime) {
-    let mut system = sample(&rt, rt.alloc());
-    tells(&rt, &mut system, &SAMPLE);
-}
-
-// A directory whose level is its parent's keeps no quota: a new one of 16 fits, and is governed by root's cell.
-const CHILDREN_AND_CELLS: [(Row, [u16; 6]); 8] = [
-    (
-        (FIRST, 0o10, [0, CHILD_0, 0, 0o401, 0, 0], Yes),
-        [0, 0, 0, 0o401, 0, 0],
-    ),
-    (
-        (FIRST, 0o10, [0, CHILD_1, 0, 0, 0, 16], Yes),
-        [0, 0, 0, 0, 0, 16],
-    ),
-    (
-        (SECOND, 0o23, [0, ROOT, 0, 0, 0, 0], Yes),
-        [0, 0, 0o20, 4, 0, 0],
-    ),
-    (
-        (FIRST, 0o6, [0, CHILD_1, 0, 1, 0, 0], Yes),
-        [0, 0, 0, 1, 0, 0],
-    ),
-    (
-        (FIRST, 0o1, [0, CHILD_1, 0, 0, 0, 0], Yes),
-        [0, 0, 0, 0, 0, 0],
-    ),
-    (
-        (FIRST, 0o23, [0, CHILD_1, 0, 0, 0, 0], Yes),
-        [0, 0, 0o20, 4, 0, 0],
-    ),
-    (
-        (FIRST, 0o21, [0, ROOT, 0, 0, 0, 0], Yes),
-        [0, 0, 0o401, 0, 0, 0],
-    ),
-    (
-        (FIRST, 0o21, [0, ROOT, 0, 1, 0, 0], Yes),
-        [0, 0, 0, 0, 1, 1],
-    ),
-];
-
-#[test]
-fn tells_of_children_and_cells(rt: HostRuntime) {
-    let mut system = begun(&rt, rt.alloc());
-    tells(&rt, &mut system, &CHILDREN_AND_CELLS);
+    let line_out = (SECOND, 0o17, [0, CHILD_2, 0, 0o550, 0, 0], Yes);
+    step(&rt, &mut system, &line_out);
+    let sent = LineByte {
+        line: 1,
+        byte: 0o150,
+    };
+    sends(&rt, &system, Some(sent));
 }

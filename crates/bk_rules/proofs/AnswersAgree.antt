@@ -1,5 +1,5 @@
 -- The checks over the facts of a state fail as those of the state do, as far as they are made.
-use Rattle.std.proofs.Common.{◌≡◌, ℕ, Bool, true, false, ◌&&◌, ◌||◌, List, [], ◌∷◌, Option, Some, None, refl, ap}
+use Rattle.std.proofs.Common.{◌≡◌, ◌∙◌, ℕ, Bool, true, false, ◌&&◌, ◌||◌, List, [], ◌∷◌, Option, Some, None, refl, ap}
 use Rattle.std.specs.Prelude.{not, is_some, is_none, unwrap_or, option_map, find as first}
 use Rattle.bk_level.specs.Levels.{dominates, lowest, level_at}
 use Rattle.bk_path.specs.Paths.{Path}
@@ -10,11 +10,16 @@ use Rattle.bk_object.specs.declared.Kind.TheVariants.{Directory}
 use Rattle.bk_object.specs.declared.Facts.{Facts}
 use Rattle.bk_quota.specs.Charges.{passes}
 use Rattle.bk_state.specs.State.{State, facts_at, holds, current_level, greatest_level, level_of}
-use Rattle.bk_state.specs.Checks as checks
-use Rattle.bk_state.specs.Checks.{Cause, NotInRow, AboveGreatest, WrongCurrent, NoParentWrite, LevelFalls, Taken, OverQuota, IsRoot, NotNamed, WrongKind, NoObject, Request, modes_of, fits_current, refusal}
+use Rattle.bk_state.specs.Allowed.{is_simple, is_star, by_mode}
+use Rattle.bk_state.specs.Request.{Request}
+use Rattle.bk_state.specs.KernelCall as model
+use Rattle.bk_state.specs.KernelCall.{KernelCall}
+use Rattle.bk_state.specs.Calls.{rule_call, rule_checks, refusal}
+use Rattle.bk_state.specs.declared.cause.Cause.{Cause}
+use Rattle.bk_state.specs.declared.cause.Cause.TheVariants.{NotInRow, AboveGreatest, WrongCurrent, NoParentWrite, IsRoot, NotNamed, WrongKind, NoObject}
 use Rattle.bk_state.specs.declared.Rule.{Rule}
 use Rattle.bk_state.specs.declared.Rule.TheVariants.{GetRead, GetAppend, GetExecute, GetWrite, Release, Give, Rescind, Create, DeleteGroup}
-use Rattle.bk_rules.specs.Decisions.{fails, answer, answer_for, facts_of}
+use Rattle.bk_rules.specs.Decisions.{asking_for, fails, refusal_by, facts_of}
 
 -- each check fails as the other's, as long as none before it failed
 abbrev Agree : (f g : Cause → Bool) → List Cause → Type 0
@@ -38,27 +43,31 @@ tested : {A : Type 0} (of : Facts → A) (other : A) (test : A → Bool) (o : Op
 tested of other test None there = cc
 tested of other test (Some facts) there = refl
 
-module _ (v : State) (s : ℕ) (rule : Rule) (request : Request) where
+module _ (v : State) (s : ℕ) (call : KernelCall) (request : Request) (same : call.modes (asking_for request.modes) ≡ call.modes request) where
   abbrev by_facts : Cause → Bool
-  by_facts = fails (facts_of v s rule request) rule
+  by_facts = fails (facts_of v s request) call
 
   abbrev by_state : Cause → Bool
-  by_state = checks.fails v s rule request
+  by_state = model.fails v s call request
 
   no_object : by_facts NoObject ≡ by_state NoObject
   no_object = some_or_none (facts_at v request.path)
 
   wrong_kind : by_state NoObject ≡ false → by_facts WrongKind ≡ by_state WrongKind
-  wrong_kind there = tested (λ facts. facts.kind) Directory (λ kind. is_within (modes_of rule request.modes) (kind_modes kind)) (facts_at v request.path) there
+  wrong_kind there =
+      tested (λ facts. facts.kind) Directory (λ kind. call.is_for kind && is_within (call.modes (asking_for request.modes)) (kind_modes kind)) (facts_at v request.path) there
+      ∙ ap (λ modes. not (passes (λ (facts : Facts). call.is_for facts.kind && is_within modes (kind_modes facts.kind)) (facts_at v request.path))) same
 
   not_in_row : by_state NoObject ≡ false → by_facts NotInRow ≡ by_state NotInRow
-  not_in_row there = tested (λ facts. in_row facts.row s) no_modes (λ row. is_within (modes_of rule request.modes) row) (facts_at v request.path) there
+  not_in_row there =
+      tested (λ facts. in_row facts.row s) no_modes (λ row. is_within (call.modes (asking_for request.modes)) row) (facts_at v request.path) there
+      ∙ ap (λ modes. not (passes (λ (facts : Facts). is_within modes (in_row facts.row s)) (facts_at v request.path))) same
 
   above_greatest : by_state NoObject ≡ false → by_facts AboveGreatest ≡ by_state AboveGreatest
-  above_greatest there = tested (level_of v) lowest (λ level. dominates (greatest_level v s) level) (facts_at v request.path) there
+  above_greatest there = tested (level_of v) lowest (λ level. by_mode (λ mode. is_simple mode (greatest_level v s) level) call.mode) (facts_at v request.path) there
 
   wrong_current : by_state NoObject ≡ false → by_facts WrongCurrent ≡ by_state WrongCurrent
-  wrong_current there = tested (level_of v) lowest (λ level. fits_current rule (current_level v s) level) (facts_at v request.path) there
+  wrong_current there = tested (level_of v) lowest (λ level. by_mode (λ mode. is_star mode (current_level v s) level) call.mode) (facts_at v request.path) there
 
   get_with_greatest : Agree by_facts by_state (NotNamed ∷ NoObject ∷ WrongKind ∷ NotInRow ∷ AboveGreatest ∷ WrongCurrent ∷ [])
   get_with_greatest = (refl, λ named. (no_object, λ there. (wrong_kind there, λ fits. (not_in_row there, λ granted. (above_greatest there, λ under. (wrong_current there, λ last. tt))))))
@@ -82,7 +91,7 @@ abbrev at : Request → Path → Request
 at request path = record request { path = path }
 
 create : (v : State) (s : ℕ) (request : Request) (path : Path) →
-    Agree (fails (facts_of v s Create (at request path)) Create) (checks.fails v s Create (at request path)) (checks.checks Create)
+    Agree (fails (facts_of v s (at request path)) (rule_call Create)) (model.fails v s (rule_call Create) (at request path)) (rule_checks Create)
 create v s request [] = (refl, λ named. (refl, λ child. cc))
 create v s request (entry ∷ path) = (
   refl,
@@ -98,18 +107,18 @@ create v s request (entry ∷ path) = (
   ),
 )
 
-by_agree : (v : State) (s : ℕ) (rule : Rule) (request : Request) → Agree (fails (facts_of v s rule request) rule) (checks.fails v s rule request) (checks.checks rule) →
-    answer (facts_of v s rule request) rule ≡ answer_for (first (checks.fails v s rule request) (checks.checks rule))
-by_agree v s rule request same = ap answer_for (first-agree (fails (facts_of v s rule request) rule) (checks.fails v s rule request) (checks.checks rule) same)
+by_agree : (v : State) (s : ℕ) (rule : Rule) (request : Request) → Agree (fails (facts_of v s request) (rule_call rule)) (model.fails v s (rule_call rule) request) (rule_checks rule) →
+    refusal_by (facts_of v s request) rule ≡ first (model.fails v s (rule_call rule) request) (rule_checks rule)
+by_agree v s rule request same = first-agree (fails (facts_of v s request) (rule_call rule)) (model.fails v s (rule_call rule) request) (rule_checks rule) same
 
-pub answers_agree : (v : State) (s : ℕ) (rule : Rule) (request : Request) → answer (facts_of v s rule request) rule ≡ answer_for (refusal v s rule request)
+pub answers_agree : (v : State) (s : ℕ) (rule : Rule) (request : Request) → refusal_by (facts_of v s request) rule ≡ refusal v s rule request
 unfolding refusal
-answers_agree v s GetRead request = by_agree v s GetRead request (get_with_greatest v s GetRead request)
-answers_agree v s GetAppend request = by_agree v s GetAppend request (get_append v s GetAppend request)
-answers_agree v s GetExecute request = by_agree v s GetExecute request (get_with_greatest v s GetExecute request)
-answers_agree v s GetWrite request = by_agree v s GetWrite request (get_with_greatest v s GetWrite request)
+answers_agree v s GetRead request = by_agree v s GetRead request (get_with_greatest v s (rule_call GetRead) request refl)
+answers_agree v s GetAppend request = by_agree v s GetAppend request (get_append v s (rule_call GetAppend) request refl)
+answers_agree v s GetExecute request = by_agree v s GetExecute request (get_with_greatest v s (rule_call GetExecute) request refl)
+answers_agree v s GetWrite request = by_agree v s GetWrite request (get_with_greatest v s (rule_call GetWrite) request refl)
 answers_agree v s Release request = refl
-answers_agree v s Give request = by_agree v s Give request (change_row v s Give request)
-answers_agree v s Rescind request = by_agree v s Rescind request (change_row v s Rescind request)
+answers_agree v s Give request = by_agree v s Give request (change_row v s (rule_call Give) request refl)
+answers_agree v s Rescind request = by_agree v s Rescind request (change_row v s (rule_call Rescind) request refl)
 answers_agree v s Create request = by_agree v s Create request (create v s request request.path)
-answers_agree v s DeleteGroup request = by_agree v s DeleteGroup request (delete_group v s DeleteGroup request)
+answers_agree v s DeleteGroup request = by_agree v s DeleteGroup request (delete_group v s (rule_call DeleteGroup) request refl)

@@ -1,19 +1,20 @@
 // The decision.
 
 ghost use Rattle.std.specs.Prelude.{◌≡◌, [], ◌∷◌, ℕ, IsTrue};
-ghost use Rattle.bk_state.specs.Checks as checks;
+ghost use Rattle.bk_state.specs.declared.cause.Cause.TheVariants as causes;
+ghost use Rattle.bk_state.specs.Allowed.{by_mode, is_star};
+ghost use Rattle.bk_state.specs.Calls.{refusal as refusal_in_state, rule_call};
+ghost use Rattle.bk_state.specs.Request.{Request};
 ghost use Rattle.bk_state.specs.State as model;
 ghost use Rattle.bk_rules.specs.Decisions as decisions;
+ghost use Rattle.bk_rules.specs.Example.{low, marked, middle, seen_from};
+ghost use Rattle.bk_rules.specs.declared.answers.Decision.TheVariants.{No, Yes};
 
 use crate::RuleFacts;
-use crate::causes::{
-    ABOVE_GREATEST, LEVEL_FALLS, NO_OBJECT, NO_PARENT_WRITE, NOT_IN_ROW, NOT_NAMED, OVER_QUOTA,
-    ROOT, TAKEN, WRONG_CURRENT, WRONG_KIND,
-};
 use bk_object::Modes;
-use bk_state::Rule;
+use bk_state::{Cause, Rule};
 
-/// The answer of a rule, with the cause of a refusal.
+/// The answer of a rule, with the number of the cause of a refusal.
 #[derive(Clone, Copy, PartialEq, Eq, Debug)]
 pub enum Decision {
     Yes,
@@ -23,89 +24,117 @@ pub enum Decision {
     Unknown(u8),
 }
 
-/// The answer of the rule: the cause of the first of its checks that fails, or yes.
-///
-/// The order of the checks is 22, 25, 23, 11, 4, 1, 2, 3, 5, 6, 7. Each is made only for the rules that list it.
+/// The answer of the rule: yes, or the cause of the first of its checks that fails.
 pub fn decide(facts: &RuleFacts, rule: Rule) -> Decision
-    ensures { result ≡ decisions.answer facts.now rule }
+    ensures answer { result ≡ decisions.answer facts.now rule }
+{
+    match refusal(facts, rule) {
+        None => Decision::Yes,
+        Some(cause) if cause.is_no() => Decision::No(cause.number()),
+        Some(cause) => Decision::Unknown(cause.number()),
+    }
+}
+
+/// The first of the rule's checks that fails.
+///
+/// The order is: not named, no object, of a wrong kind, root, parent not written, not in the row, above the greatest level,
+/// wrong current level, a level that falls, taken, over quota. Each is made only for the rules that list it.
+pub fn refusal(facts: &RuleFacts, rule: Rule) -> Option<Cause>
+    ensures first { result ≡ decisions.refusal_by facts.now rule }
 {
     match rule {
-        Rule::Release => Decision::Yes,
-        _ if !facts.named => Decision::Unknown(NOT_NAMED),
+        Rule::Release => None,
+        _ if !facts.named => Some(Cause::NotNamed),
         Rule::Create => create(facts),
-        _ if !facts.there => Decision::Unknown(NO_OBJECT),
+        _ if !facts.there => Some(Cause::NoObject),
         Rule::DeleteGroup => change_below(facts),
         Rule::Give | Rule::Rescind if !facts.modes.is_within(facts.kind.modes()) => {
-            Decision::Unknown(WRONG_KIND)
+            Some(Cause::WrongKind)
         }
         Rule::Give | Rule::Rescind => change_below(facts),
         Rule::GetRead | Rule::GetAppend | Rule::GetExecute | Rule::GetWrite => get(facts, rule),
     }
 }
 
-/// Over the facts of a state, the answer is that of the first check of the rule that fails in the state.
+/// Over the facts of a state, the first check of the rule that fails is the first that fails in the state, and the answer is
+/// that check's.
 pub fn law_answers()
-    ensures { (v : model.State) (s : ℕ) (rule : Rule) (request : checks.Request) →
-        decisions.answer (decisions.facts_of v s rule request) rule ≡ decisions.answer_for (checks.refusal v s rule request) }
+    ensures refusal { (v : model.State) (s : ℕ) (rule : Rule) (request : Request) →
+        decisions.refusal_by (decisions.facts_of v s request) rule ≡ refusal_in_state v s rule request }
+    ensures answer { (v : model.State) (s : ℕ) (rule : Rule) (request : Request) →
+        decisions.answer (decisions.facts_of v s request) rule ≡ decisions.answer_for (refusal_in_state v s rule request) }
+{}
+
+/// Who may come to hold a segment by which mode, at levels that were worked by hand.
+pub fn law_example()
+    ensures above_greatest { decisions.answer (seen_from low low middle) Rule.GetRead ≡ No 2 }
+    ensures above_current { decisions.answer (seen_from middle low middle) Rule.GetRead ≡ No 3 }
+    ensures read { decisions.answer (seen_from middle middle middle) Rule.GetRead ≡ Yes }
+    ensures category { decisions.answer (seen_from middle middle marked) Rule.GetRead ≡ No 2 }
+    ensures not_in_row { decisions.answer (seen_from middle middle middle) Rule.GetExecute ≡ No 1 }
+    ensures write_below { decisions.answer (seen_from middle middle low) Rule.GetWrite ≡ No 3 }
+    ensures append_below { decisions.answer (seen_from middle middle low) Rule.GetAppend ≡ No 3 }
+    ensures append_above { decisions.answer (seen_from low low middle) Rule.GetAppend ≡ Yes }
+    ensures not_written { decisions.answer (seen_from middle middle middle) Rule.Create ≡ No 4 }
 {}
 
 // The last checks of create, for a named object.
-fn create(facts: &RuleFacts) -> Decision
+fn create(facts: &RuleFacts) -> Option<Cause>
     requires { IsTrue facts.now.named }
-    ensures { result ≡ decisions.answer facts.now Rule.Create }
+    ensures first { result ≡ decisions.refusal_by facts.now Rule.Create }
 {
     if facts.root || !facts.parent_write {
         change_below(facts)
     } else if !facts.new_level.dominates(facts.parent_level) {
-        Decision::No(LEVEL_FALLS)
+        Some(Cause::LevelFalls)
     } else if facts.taken {
-        Decision::No(TAKEN)
+        Some(Cause::Taken)
     } else if !facts.fits {
-        Decision::No(OVER_QUOTA)
+        Some(Cause::OverQuota)
     } else {
-        Decision::Yes
+        None
     }
 }
 
 // The checks for a change below a directory: of an object that isn't root, and whose parent the caller holds by write.
-fn change_below(facts: &RuleFacts) -> Decision
-    ensures { result ≡ decisions.answer_by facts.now Rule.DeleteGroup (checks.IsRoot ∷ checks.NoParentWrite ∷ []) }
+fn change_below(facts: &RuleFacts) -> Option<Cause>
+    ensures first { result ≡ decisions.first_of (causes.IsRoot ∷ causes.NoParentWrite ∷ []) facts.now Rule.DeleteGroup }
 {
     if facts.root {
-        Decision::No(ROOT)
+        Some(Cause::IsRoot)
     } else if !facts.parent_write {
-        Decision::No(NO_PARENT_WRITE)
+        Some(Cause::NoParentWrite)
     } else {
-        Decision::Yes
+        None
     }
 }
 
 // The last checks of the four rules by which a subject comes to hold an object that is named and there. Get-append doesn't
 // ask for the greatest level.
-fn get(facts: &RuleFacts, rule: Rule) -> Decision
+fn get(facts: &RuleFacts, rule: Rule) -> Option<Cause>
     requires get { IsTrue (decisions.is_get rule) }
     requires named { IsTrue facts.now.named }
     requires there { IsTrue facts.now.there }
-    ensures { result ≡ decisions.answer facts.now rule }
+    ensures first { result ≡ decisions.refusal_by facts.now rule }
 {
     let mode = mode_of(rule);
     if !mode.is_within(facts.kind.modes()) {
-        Decision::Unknown(WRONG_KIND)
+        Some(Cause::WrongKind)
     } else if !mode.is_within(facts.row) {
-        Decision::No(NOT_IN_ROW)
+        Some(Cause::NotInRow)
     } else if rule != Rule::GetAppend && !facts.f_s.dominates(facts.f_o) {
-        Decision::No(ABOVE_GREATEST)
-    } else if !is_current_fit(facts, rule) {
-        Decision::No(WRONG_CURRENT)
+        Some(Cause::AboveGreatest)
+    } else if !is_star(facts, rule) {
+        Some(Cause::WrongCurrent)
     } else {
-        Decision::Yes
+        None
     }
 }
 
-// The mode that one of these four rules asks for.
-fn mode_of(rule: Rule) -> Modes
+/// The mode that one of the four rules asks for by which a subject comes to hold an object.
+pub fn mode_of(rule: Rule) -> Modes
     requires { IsTrue (decisions.is_get rule) }
-    ensures { (given : Modes) → result ≡ checks.modes_of rule given }
+    ensures mode { (request : Request) → result ≡ (rule_call rule).modes request }
 {
     match rule {
         Rule::GetAppend => Modes::A,
@@ -115,9 +144,9 @@ fn mode_of(rule: Rule) -> Modes
     }
 }
 
-// Whether the current level stands to the object's as the rule asks.
-fn is_current_fit(facts: &RuleFacts, rule: Rule) -> bool
-    ensures { result ≡ checks.fits_current rule facts.now.f_c facts.now.f_o }
+// Whether the current level stands to the object's as the *-property asks for the rule's mode.
+fn is_star(facts: &RuleFacts, rule: Rule) -> bool
+    ensures star { result ≡ by_mode (λ mode. is_star mode facts.now.f_c facts.now.f_o) (rule_call rule).mode }
 {
     match rule {
         Rule::GetRead | Rule::GetExecute => facts.f_c.dominates(facts.f_o),

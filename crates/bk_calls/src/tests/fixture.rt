@@ -1,8 +1,8 @@
-// A store of root and one line, with its core and the process of a caller.
+// The store of the sample, with its core and the process of a caller.
 
-ghost use Rattle.std.specs.Prelude.{◌≡◌, replicate, IfSome};
+ghost use Rattle.std.specs.Prelude.{◌≡◌, IfSome};
 ghost use Rattle.bk_object.specs.declared.kind.Kind.TheVariants.{Line};
-ghost use Rattle.bk_object.specs.Modes.{no_modes};
+ghost use Rattle.bk_object.specs.Rows.{empty_row};
 ghost use Rattle.bk_store.specs.Stored.{IsFreeLine};
 
 use super::steps::FIRST;
@@ -11,7 +11,7 @@ use crate::{Answer, Caller, LineByte, call};
 use bitflags::Flags;
 use bk_core::Core;
 use bk_level::{Level, LevelTable};
-use bk_object::{Facts, Kind, Modes, Row};
+use bk_object::{Facts, Kind, MOST_SUBJECTS, Modes, Row};
 use bk_path::Path;
 use bk_process::Process;
 use bk_space::{Mode, Ps, Regs};
@@ -30,7 +30,7 @@ pub(crate) struct System {
 
 // The facts of an object that grants nobody anything.
 fn facts_of(kind: Kind, blocks: u8, level: u8, quota: u16) -> Facts
-    ensures { result ≡ record { kind = kind; blocks = blocks; level = level; quota = quota; row = replicate 32 no_modes } }
+    ensures { result ≡ record { kind = kind; blocks = blocks; level = level; quota = quota; row = empty_row } }
 {
     Facts {
         kind,
@@ -44,10 +44,8 @@ fn facts_of(kind: Kind, blocks: u8, level: u8, quota: u16) -> Facts
 // A subject, the first word of a path, the modes that the object there grants it, and those by which it holds it.
 type Grant = (u8, u16, u8, u8);
 
-const BEGUN: [Grant; 3] = [(0, ROOT, 5, 5), (1, ROOT, 1, 1), (1, CHILD_2, 4, 4)];
-
-const SAMPLE: [Grant; 6] = [
-    (0, ROOT, 1, 1),
+const GRANTS: [Grant; 6] = [
+    (0, ROOT, 5, 5),
     (0, CHILD_0, 3, 2),
     (0, CHILD_1, 4, 4),
     (1, ROOT, 1, 1),
@@ -55,24 +53,23 @@ const SAMPLE: [Grant; 6] = [
     (1, CHILD_2, 4, 4),
 ];
 
-// Root with a quota of 16 at level 0, below it line 1 as `/2` at level 1, of which subject 1 is granted w and holds it; level 1
-// dominates level 0. Of two subjects the first calls, at level 0; it holds r and w on root, and the second holds r.
-pub(crate) fn begun(rt: &impl Abort, alloc: Global) -> System {
-    let mut core = Core::reserve(alloc).ok().expect(rt, "memory");
-    let mut store = with_line(alloc, levels(rt), &mut core).expect(rt, "memory");
-    grant_all(&mut store, &BEGUN).expect(rt, "objects");
-    called_by_the_first(store, core)
-}
-
-// The sample: root with a quota of 16, a segment of one block as `/0` and line 0 as `/1`, all at level 0, and line 1 as `/2`
-// at level 1, which dominates level 0. Both subjects are granted r on root and hold it, and are granted r and e on `/0` and
-// hold it by e; the first is granted w on `/1` and the second on `/2`, and they hold that. The first calls, at level 0.
+// The sample, but that the first subject holds root by w too: root with a quota of 16, a segment of one block as `/0` and
+// line 0 as `/1`, all at level 0, and line 1 as `/2` at level 1, which dominates level 0. Both subjects are granted r on root
+// and hold it, and are granted r and e on `/0` and hold it by e; the first is granted w on `/1` and the second on `/2`, and
+// they hold that. The first calls, at level 0.
 pub(crate) fn sample(rt: &impl Abort, alloc: Global) -> System {
     let mut core = Core::reserve(alloc).ok().expect(rt, "memory");
-    let mut store = with_lines(rt, alloc, &mut core);
+    let mut store = with_line(alloc, levels(rt), &mut core).expect(rt, "memory");
+    add_line(&mut store, &mut core, CHILD_1).expect(rt, "a line");
     add_segment(&mut store, &mut core, CHILD_0).expect(rt, "a segment");
-    grant_all(&mut store, &SAMPLE).expect(rt, "objects");
-    called_by_the_first(store, core)
+    grant_all(&mut store, &GRANTS).expect(rt, "objects");
+    System {
+        store,
+        core,
+        process: Process::new(Regs::process(Ps::process(Mode::User, Mode::User))),
+        caller: FIRST,
+        sent: None,
+    }
 }
 
 // Two levels, of which the second dominates the first.
@@ -85,16 +82,6 @@ fn levels(rt: &impl Abort) -> LevelTable {
             .expect(rt, "room");
     }
     levels
-}
-
-fn called_by_the_first(store: Store, core: Core) -> System {
-    System {
-        store,
-        core,
-        process: Process::new(Regs::process(Ps::process(Mode::User, Mode::User))),
-        caller: FIRST,
-        sent: None,
-    }
 }
 
 // A store of root and of line 1 as `/2` at level 1.
@@ -112,13 +99,6 @@ fn with_line(alloc: Global, levels: LevelTable, core: &mut Core) -> Option<Store
         },
         Err(_) => None,
     }
-}
-
-// A store of root, of line 0 as `/1` at level 0 and of line 1 as `/2` at level 1.
-fn with_lines(rt: &impl Abort, alloc: Global, core: &mut Core) -> Store {
-    let mut store = with_line(alloc, levels(rt), core).expect(rt, "memory");
-    add_line(&mut store, core, CHILD_1).expect(rt, "a line");
-    store
 }
 
 // Line 0, at level 0, as the path with that first word.
@@ -158,7 +138,7 @@ fn give_and_hold(store: &mut Store, grant: &Grant) -> Option<()> {
     let (subject, first, row, held) = *grant;
     let path = Path::unpack(first, 0)?;
     store.facts(path)?;
-    if subject >= 32 {
+    if subject >= MOST_SUBJECTS {
         return None;
     }
     store.give(path, subject, Modes::from_bits_retain(row));
@@ -170,7 +150,7 @@ fn give_and_hold(store: &mut Store, grant: &Grant) -> Option<()> {
 // The answer to the call with these registers.
 pub(crate) fn ask(system: &mut System, number: u8, general: [u16; 6]) -> Option<Answer> {
     let caller = system.caller;
-    if caller.subject >= caller.subjects || caller.subjects > 32 {
+    if caller.subject >= caller.subjects || caller.subjects > MOST_SUBJECTS {
         return None;
     }
     system.store.level(caller.f_s)?;
@@ -185,13 +165,4 @@ pub(crate) fn ask(system: &mut System, number: u8, general: [u16; 6]) -> Option<
     );
     system.sent = reply.sent;
     Some(reply.answer)
-}
-
-// The modes by which the subject holds the object whose path has that first word.
-pub(crate) fn held(system: &System, subject: u8, first: u16) -> Option<u8> {
-    let path = Path::unpack(first, 0)?;
-    if subject >= 32 {
-        return None;
-    }
-    Some(system.store.held(subject, path).bits())
 }

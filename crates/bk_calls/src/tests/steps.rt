@@ -4,7 +4,7 @@ use super::fixture::{System, ask};
 use crate::{Answer, Caller, LineByte};
 use std::process::Abort;
 
-// Who calls: the first subject; the second at its level 1; and the first with a greatest level of 1, at level 0 and at level 1.
+// Who calls: the first subject, at level 0, and the second, at level 1.
 pub(crate) const FIRST: Caller = Caller {
     subject: 0,
     f_s: 0,
@@ -14,20 +14,6 @@ pub(crate) const FIRST: Caller = Caller {
 
 pub(crate) const SECOND: Caller = Caller {
     subject: 1,
-    f_s: 1,
-    f_c: 1,
-    subjects: 2,
-};
-
-pub(crate) const FIRST_BELOW: Caller = Caller {
-    subject: 0,
-    f_s: 1,
-    f_c: 0,
-    subjects: 2,
-};
-
-pub(crate) const FIRST_ABOVE: Caller = Caller {
-    subject: 0,
     f_s: 1,
     f_c: 1,
     subjects: 2,
@@ -54,11 +40,6 @@ pub(crate) fn answers(rt: &impl Abort, system: &mut System, rows: &[Row]) {
     for row in rows {
         step(rt, system, row);
     }
-}
-
-// Each row's call in turn, from that system on.
-pub(crate) fn answers_from(rt: &impl Abort, mut system: System, rows: &[Row]) {
-    answers(rt, &mut system, rows);
 }
 
 // Each row's call in turn, and what R0 to R5 are after it.

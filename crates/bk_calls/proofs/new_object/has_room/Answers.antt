@@ -2,7 +2,7 @@ use Rattle.std.proofs.Common.{◌+◌, ◌∙◌, ap}
 use Rattle.std.specs.Prelude.{nat_le}
 use Rattle.bk_object.specs.declared.Facts.{Facts}
 use Rattle.bk_quota.specs.Charges.{charge_of}
-use Rattle.bk_state.specs.Calls.{request_in}
+use Rattle.bk_state.specs.Request.{request_in}
 use Rattle.bk_calls.proofs.Seen.{room-seen}
 use Rattle.bk_calls.proofs.new_object.has_room.Goals as goal
 
