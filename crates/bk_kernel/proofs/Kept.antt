@@ -1,8 +1,9 @@
 -- The kernel's state after a change of store and core.
-use Rattle.std.proofs.Common.{◌≡◌, ℕ, zero, suc, ◌+◌, ◌≤◌, ◌<◌, Bool, true, false, List, [], ◌∷◌, length, map, get_or, Option, Some, None, refl, sym, ap, subst, ◌∙◌, arith}
-use Rattle.std.specs.Prelude.{All, if◌then◌else◌}
-use Rattle.std.proofs.lemmas.List.{get_or_read, length-map}
-use Rattle.std.proofs.lemmas.List.Elements.{All-from_get_or}
+use Rattle.std.proofs.Common.{◌≡◌, ℕ, zero, suc, ◌+◌, ◌≤◌, ◌<◌, Bool, true, false, List, [], ◌∷◌, length, get_or, Option, Some, None, refl}
+use Rattle.std.proofs.Common.{sym, ap, subst, ◌∙◌, arith}
+use Rattle.std.specs.Prelude.{if◌then◌else◌, slice_get, slice_set}
+use Rattle.std.proofs.lemmas.List.{get_or_read}
+use Rattle.std.proofs.lemmas.Option.{same_Some}
 use Rattle.bk_path.specs.Paths.{Path}
 use Rattle.bk_space.specs.AddrSpace.{Write, applied}
 use Rattle.bk_space.specs.Counts.{counted_on}
@@ -13,29 +14,23 @@ use Rattle.bk_space.specs.declared.reference.Space.TheVariants.{D}
 use Rattle.bk_space.specs.declared.reference.Width.TheVariants.{Word}
 use Rattle.bk_exec.specs.Exec.{Done, exec}
 use Rattle.bk_exec.proofs.MostLemmas.{exec_most}
-use Rattle.bk_core.specs.Memory.{Memory}
 use Rattle.bk_process.specs.declared.process.Process.{Process}
 use Rattle.bk_process.specs.declared.status.Status9.TheVariants.{Stopped}
 use Rattle.bk_report.specs.declared.item.ReportItem.TheVariants as items
-use Rattle.bk_state.specs.State.{State}
-use Rattle.bk_state.specs.Start.{clearance_from, process_from, state_of}
-use Rattle.bk_state.specs.Answers.{called}
+use Rattle.bk_state.specs.State.{State, process_of}
+use Rattle.bk_state.specs.Answers.{Called, called}
 use Rattle.bk_state.specs.declared.clearance.Clearance.{Clearance}
-use Rattle.bk_state.specs.declared.image.Image.{Image}
 use Rattle.bk_state.proofs.AlikeCalls.{called-alike}
 use Rattle.bk_store.specs.Stored.{Stored, objects_of}
 use Rattle.bk_store.specs.Stands.{StandsFor}
-use Rattle.bk_image.specs.Accepted.{IsAccepted}
-use Rattle.bk_image.proofs.SecureLists.{lt_of, mapped_at, not_false}
 use Rattle.bk_calls.specs.Made.{seen_by}
 use Rattle.bk_calls.specs.declared.caller.Caller.{Caller}
 use Rattle.bk_calls.proofs.Seen.{clearance-seen, subjects-seen}
 use Rattle.bk_system.specs.Turn.{entered, faulted, less, pushed, with_process, with_pushes, written}
+use Rattle.bk_system.specs.declared.at.At.{At}
 use Rattle.bk_system.specs.Space.{space_of}
-use Rattle.bk_kernel.specs.Beginning.{state_with}
-use Rattle.bk_kernel.specs.declared.beginning.Beginning.{Beginning}
-use Rattle.bk_kernel.specs.Tables.{state_from, IsKept, IsKnown}
-use Rattle.bk_kernel.proofs.Alike.{written-only}
+use Rattle.bk_kernel.specs.Tables.{interrupted, ran, served, state_from}
+use Rattle.bk_bus.proofs.Alike.{written-only}
 
 -- a few references from 0
 pub counted_small : (n : ℕ) → n ≤ 8 → counted_on 0 n ≡ n
@@ -70,20 +65,17 @@ kept-objects clearances lines turns schedule processes store new_store words new
     kept-changed clearances lines turns schedule processes store new_store words new_words v w is
     (only ∙ (λ i. record v { objects = w.objects; access = ap (λ (x : State). x.access) (sym only) i })) levels stands.objects stands.access
 
--- the bus stands for the state once it is the subject's
-pub aimed-stands : (clearances : List Clearance) (lines : List ℕ) (turns : ℕ) (schedule : List ℕ) (processes : List Process) (store aimed : Stored) (core core_aimed : Memory) (v : State) →
-    state_from clearances lines turns schedule processes store core.words ≡ v → store.lines ≡ length lines → aimed ≡ store → core_aimed ≡ core → StandsFor aimed core_aimed.words v
-aimed-stands clearances lines turns schedule processes store aimed core core_aimed v is same stores cores =
-    subst (λ (x : State). StandsFor aimed core_aimed.words x) is
-    (subst (λ (s : Stored). StandsFor s core_aimed.words (state_from clearances lines turns schedule processes store core.words)) (sym stores)
-    (subst (λ (k : Memory). StandsFor store k.words (state_from clearances lines turns schedule processes store core.words)) (sym cores)
-    (kept-stands clearances lines turns schedule processes store core.words same)))
+-- store and core stand for the state that is kept
+pub state-stands : (clearances : List Clearance) (lines : List ℕ) (turns : ℕ) (schedule : List ℕ) (processes : List Process) (store : Stored) (words : List ℕ) (v : State) →
+    state_from clearances lines turns schedule processes store words ≡ v → store.lines ≡ length lines → StandsFor store words v
+state-stands clearances lines turns schedule processes store words v is same =
+    subst (λ (x : State). StandsFor store words x) is (kept-stands clearances lines turns schedule processes store words same)
 
--- what is kept stays kept where the store keeps its levels and lines
-pub still-kept : (clearances : List Clearance) (lines processes : ℕ) (store new_store : Stored) → IsKept clearances lines processes (length store.levels) store.lines → new_store.levels ≡ store.levels → new_store.lines ≡ store.lines →
-    IsKept clearances lines processes (length new_store.levels) new_store.lines
-still-kept clearances lines processes store new_store kept_before levels same =
-    subst (λ n. IsKept clearances lines processes (length new_store.levels) n) (sym same) (subst (λ n. IsKept clearances lines processes n store.lines) (sym (ap length levels)) kept_before)
+-- a process is put in its place
+pub put-in : (clearances : List Clearance) (lines : List ℕ) (turns : ℕ) (schedule : List ℕ) (processes : List Process) (store : Stored) (words : List ℕ) (w : State) (s : ℕ) (p q : Process) →
+    state_from clearances lines turns schedule processes store words ≡ w → p ≡ q →
+    state_from clearances lines turns schedule (slice_set processes s p) store words ≡ with_process w s q
+put-in clearances lines turns schedule processes store words w s p q is same = λ i. with_process (is i) s (same i)
 
 -- ---- instructions
 
@@ -92,25 +84,12 @@ applied-only : (windows : List (Option Path)) (v : State) (o : Option Write) →
 applied-only windows v None = refl
 applied-only windows v (Some w) = written-only v windows w
 
-pub same-instruction : (v : State) (s t : ℕ) (windows others : List (Option Path)) (regs : Regs) → t ≡ s → others ≡ windows → exec (space_of v t others) regs ≡ exec (space_of v s windows) regs
-same-instruction v s t windows others regs same shown = λ i. exec (space_of v (same i) (shown i)) regs
-
-pub instruct-state : (clearances : List Clearance) (lines : List ℕ) (turns : ℕ) (schedule : List ℕ) (processes : List Process) (store aimed new_store : Stored) (words new_words : List ℕ) (v : State) (s t : ℕ) (windows others : List (Option Path)) (regs : Regs) →
-    state_from clearances lines turns schedule processes store words ≡ v → new_store ≡ aimed → aimed ≡ store → t ≡ s → others ≡ windows →
-    StandsFor new_store new_words (applied (written others) v (exec (space_of v t others) regs).write) →
-    state_from clearances lines turns schedule processes new_store new_words ≡ applied (written windows) v (exec (space_of v s windows) regs).write
-instruct-state clearances lines turns schedule processes store aimed new_store words new_words v s t windows others regs is kept_store aim same shown stands =
-    kept-objects clearances lines turns schedule processes store new_store words new_words v (applied (written windows) v (exec (space_of v s windows) regs).write) is
-    (applied-only windows v (exec (space_of v s windows) regs).write) (ap (λ (x : Stored). x.levels) (kept_store ∙ aim))
-    (subst (λ (ws : List (Option Path)). StandsFor new_store new_words (applied (written ws) v (exec (space_of v s ws) regs).write)) shown
-    (subst (λ n. StandsFor new_store new_words (applied (written others) v (exec (space_of v n others) regs).write)) same stands))
-
-pub instruct-references : (v : State) (s t : ℕ) (windows others : List (Option Path)) (regs : Regs) (before after : ℕ) → t ≡ s → others ≡ windows → before ≡ 0 → after ≡ counted_on before (exec (space_of v t others) regs).references →
-    after ≡ (exec (space_of v s windows) regs).references
-instruct-references v s t windows others regs before after same shown none is =
-    is ∙ ap (λ n. counted_on n (exec (space_of v t others) regs).references) none
-    ∙ ap (λ (x : Done). counted_on 0 x.references) (same-instruction v s t windows others regs same shown)
-    ∙ counted_small (exec (space_of v s windows) regs).references (exec_most (space_of v s windows) regs)
+pub ran-state : (clearances : List Clearance) (lines : List ℕ) (turns : ℕ) (schedule : List ℕ) (processes : List Process) (store : Stored) (words new_words : List ℕ) (v : State) (s : ℕ) (p q : Process) (x : Done) →
+    state_from clearances lines turns schedule processes store words ≡ v → q ≡ record p { registers = x.regs } → StandsFor store new_words (applied (written p.windows) v x.write) →
+    state_from clearances lines turns schedule (slice_set processes s q) store new_words ≡ ran v s p x
+ran-state clearances lines turns schedule processes store words new_words v s p q x is becomes stands =
+    put-in clearances lines turns schedule processes store new_words (applied (written p.windows) v x.write) s q (record p { registers = x.regs })
+    (kept-objects clearances lines turns schedule processes store store words new_words v (applied (written p.windows) v x.write) is (applied-only p.windows v x.write) refl stands) becomes
 
 pub few-references : (v : State) (s : ℕ) (windows : List (Option Path)) (regs : Regs) → (exec (space_of v s windows) regs).references ≤ 8
 few-references v s windows regs = exec_most (space_of v s windows) regs
@@ -124,12 +103,33 @@ pushes-only v p true =
     ∙ ap (λ (x : State). record x { objects = (with_pushes v p).objects })
     (written-only v p.windows (record { mode = Supervisor; space = D; width = Word; addr = less p.registers.supervisor 2; value = word_of p.registers.ps }))
 
-pub pushed-state : (clearances : List Clearance) (lines : List ℕ) (turns : ℕ) (schedule : List ℕ) (processes : List Process) (store aimed new_store : Stored) (words new_words : List ℕ) (v : State) (p : Process) (taken : Bool) →
-    state_from clearances lines turns schedule processes store words ≡ v → new_store ≡ aimed → aimed ≡ store → StandsFor new_store new_words (if taken then with_pushes v p else v) →
-    state_from clearances lines turns schedule processes new_store new_words ≡ (if taken then with_pushes v p else v)
-pushed-state clearances lines turns schedule processes store aimed new_store words new_words v p taken is kept_store aim stands =
-    kept-objects clearances lines turns schedule processes store new_store words new_words v (if taken then with_pushes v p else v) is (pushes-only v p taken)
-    (ap (λ (x : Stored). x.levels) (kept_store ∙ aim)) stands
+interrupted-is : (v : State) (s : ℕ) (p : Process) (number entry : ℕ) (is_taken : Bool) →
+    with_process (if is_taken then with_pushes v p else v) s (if is_taken then entered p entry else record p { status = Stopped number }) ≡ interrupted v s p number entry is_taken
+interrupted-is v s p number entry true = refl
+interrupted-is v s p number entry false = refl
+
+pub interrupted-state : (clearances : List Clearance) (lines : List ℕ) (turns : ℕ) (schedule : List ℕ) (processes : List Process) (store : Stored) (words new_words : List ℕ) (v : State) (s : ℕ) (p q : Process) (number entry : ℕ) (is_taken : Bool) →
+    state_from clearances lines turns schedule processes store words ≡ v → q ≡ (if is_taken then entered p entry else record p { status = Stopped number }) → StandsFor store new_words (if is_taken then with_pushes v p else v) →
+    state_from clearances lines turns schedule (slice_set processes s q) store new_words ≡ interrupted v s p number entry is_taken
+interrupted-state clearances lines turns schedule processes store words new_words v s p q number entry is_taken is becomes stands =
+    put-in clearances lines turns schedule processes store new_words (if is_taken then with_pushes v p else v) s q (if is_taken then entered p entry else record p { status = Stopped number })
+    (kept-objects clearances lines turns schedule processes store store words new_words v (if is_taken then with_pushes v p else v) is (pushes-only v p is_taken) refl stands) becomes
+    ∙ interrupted-is v s p number entry is_taken
+
+-- what a fault leaves, gives and costs is the end of the instruction
+pub interrupted-ends : (v : State) (at : At) (p : Process) (number references entry : ℕ) (is_taken : Bool) → interrupted v at.subject p number entry is_taken ≡ (faulted v at p number references entry is_taken).state
+interrupted-ends v at p number references entry true = refl
+interrupted-ends v at p number references entry false = refl
+
+pub fault-items : (v : State) (at : At) (p : Process) (number references entry : ℕ) (taken : Bool) →
+    items.Fault at.slot at.turn at.subject number p.registers.pc taken ∷ [] ≡ (faulted v at p number references entry taken).items
+fault-items v at p number references entry true = refl
+fault-items v at p number references entry false = refl
+
+pub fault-references : (v : State) (at : At) (p : Process) (number references entry : ℕ) (taken : Bool) →
+    references + (if taken then 2 else 0) ≡ (faulted v at p number references entry taken).references
+fault-references v at p number references entry true = refl
+fault-references v at p number references entry false = omega arith
 
 -- ---- kernel calls
 
@@ -144,46 +144,20 @@ call-alike clearances lines turns schedule processes store words v caller p numb
     (subjects-seen caller store words ∙ subjects) p number
     ∙ ap (λ (x : State). called x caller.subject p number) is
 
--- ---- the start
+pub served-state : (clearances : List Clearance) (lines : List ℕ) (turns : ℕ) (schedule : List ℕ) (processes : List Process) (store new_store : Stored) (words new_words : List ℕ) (v : State) (s : ℕ) (q : Process) (made : Called) →
+    state_from clearances lines turns schedule processes store words ≡ v → new_store.levels ≡ store.levels → objects_of new_store new_words ≡ made.objects → new_store.access ≡ made.access → q ≡ made.process →
+    state_from clearances lines turns schedule (slice_set processes s q) new_store new_words ≡ served v s made
+served-state clearances lines turns schedule processes store new_store words new_words v s q made is levels objects access becomes =
+    put-in clearances lines turns schedule processes new_store new_words (record v { objects = made.objects; access = made.access }) s q made.process
+    (kept-changed clearances lines turns schedule processes store new_store words new_words v (record v { objects = made.objects; access = made.access }) is refl levels objects access) becomes
 
-known : (image : Image) → IsAccepted image → All (IsKnown (length image.levels)) (map clearance_from image.subjects)
-known image accepted = All-from_get_or (IsKnown (length image.levels)) (map clearance_from image.subjects) (record { greatest = 0; current = 0 }) (λ s lt.
-    let (subject, at, is) = mapped_at clearance_from image.subjects s (record { greatest = 0; current = 0 }) (omega (arith, length-map image.subjects clearance_from)) in
-    let checks = accepted.subjects at.front subject at.tail at.whole in
-    subst (λ (c : Clearance). IsKnown (length image.levels) c) (sym is) (record {
-      greatest = lt_of subject.f_s (length image.levels) (not_false _ checks.0);
-      current = lt_of subject.f_c (length image.levels) (not_false _ checks.1.0);
-    }))
+-- ---- the process in its place
 
--- the state of an accepted image can be kept
-pub start-kept : (image : Image) (store : Stored) (words : List ℕ) (b : Beginning) → IsAccepted image → state_with store words b ≡ state_of image → StandsFor store words (state_of image) →
-    IsKept b.clearances.items (length b.lines.items) (length b.processes.items) (length store.levels) store.lines
-unfolding state_of
-start-kept image store words b accepted is stands =
-    let clearances : b.clearances.items ≡ map clearance_from image.subjects = ap (λ (v : State). v.fixed.subjects) is in
-    let levels : store.levels ≡ image.levels = ap (λ (v : State). v.fixed.levels) is in
-    let size : length b.clearances.items ≡ length image.subjects = ap length clearances ∙ length-map image.subjects clearance_from in
-    let made : length b.processes.items ≡ length image.subjects = ap (λ (v : State). length v.processes) is ∙ length-map image.subjects process_from in
-    record {
-      few = omega (arith, size, accepted.counts.subjects);
-      processes_are = made ∙ sym size;
-      known = subst (λ n. All (IsKnown n) b.clearances.items) (sym (ap length levels)) (subst (λ cs. All (IsKnown (length image.levels)) cs) (sym clearances) (known image accepted));
-      lines_are = stands.lines ∙ sym (ap (λ (v : State). length v.fixed.lines) is);
-    }
+found-at : {X : Type 0} (xs : List X) (n : ℕ) (p q : X) → slice_get xs n ≡ Some p → q ≡ get_or xs n q → q ≡ p
+found-at [] n p q at found = cc
+found-at (x ∷ xs) zero p q at found = found ∙ same_Some x p at
+found-at (x ∷ xs) (suc n) p q at found = found-at xs n p q at found
 
--- ---- what a fault leaves
-
-pub fault-state : (v : State) (slot turn s : ℕ) (p : Process) (number references entry : ℕ) (taken : Bool) →
-    with_process (if taken then with_pushes v p else v) s (if taken then entered p entry else record p { status = Stopped number }) ≡ (faulted v slot turn s p number references entry taken).state
-fault-state v slot turn s p number references entry true = refl
-fault-state v slot turn s p number references entry false = refl
-
-pub fault-items : (v : State) (slot turn s : ℕ) (p : Process) (number references entry : ℕ) (taken : Bool) →
-    items.Fault slot turn s number p.registers.pc taken ∷ [] ≡ (faulted v slot turn s p number references entry taken).items
-fault-items v slot turn s p number references entry true = refl
-fault-items v slot turn s p number references entry false = refl
-
-pub fault-references : (v : State) (slot turn s : ℕ) (p : Process) (number references entry : ℕ) (taken : Bool) →
-    references + (if taken then 2 else 0) ≡ (faulted v slot turn s p number references entry taken).references
-fault-references v slot turn s p number references entry true = refl
-fault-references v slot turn s p number references entry false = omega arith
+-- the process that the tables have is that of the state
+pub found-process : (processes : List Process) (v : State) (s : ℕ) (p q : Process) → processes ≡ v.processes → process_of v s ≡ Some p → q ≡ get_or processes s q → q ≡ p
+found-process processes v s p q same there found = found-at processes s p q (ap (λ ps. slice_get ps s) same ∙ there) found

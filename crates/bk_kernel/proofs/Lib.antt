@@ -1,15 +1,6 @@
 pub mod InPlace
 pub mod Lines
 pub mod Turns
-pub mod Seen
-pub mod Written
-pub mod Alike
-pub mod Reflected
-pub mod Parts
-pub mod Mapped
-pub mod Fronts
-pub mod Takes
-pub mod Filled
-pub mod Loaded
+pub mod Placed
 pub mod Kept
 pub mod Typing

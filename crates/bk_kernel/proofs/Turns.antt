@@ -1,13 +1,21 @@
 -- The turns of a slot one after another.
-use Rattle.std.proofs.Common.{◌≡◌, ℕ, zero, suc, ◌+◌, ◌-◌, ◌^◌, ◌≤◌, ◌<◌, min, max, List, [], ◌++◌, refl, sym, ◌∙◌, ap, arith, append_assoc, append-nil, cond}
+use Rattle.std.proofs.Common.{◌≡◌, ℕ, zero, suc, ◌+◌, ◌-◌, ◌^◌, ◌≤◌, ◌<◌, min, max, List, [], ◌++◌, refl, sym, ◌∙◌, ap, arith, append_assoc}
+use Rattle.std.proofs.Common.{append-nil, cond}
 use Rattle.std.proofs.lemmas.List.Sums.{sum_by-append}
 use Rattle.bk_report.specs.declared.item.ReportItem.{ReportItem}
 use Rattle.bk_state.specs.State.{State}
 use Rattle.bk_system.specs.Step.{Step, nothing, joined}
+use Rattle.bk_system.specs.declared.at.At.{At}
 use Rattle.bk_system.specs.Turn.{turn_of}
-use Rattle.bk_system.specs.Slot.{turns_of}
+use Rattle.bk_system.specs.Loops.{turns_of}
+use Rattle.bk_system.specs.Slot.{subject_of}
+use Rattle.bk_system.specs.declared.script.TypedAt.{TypedAt}
 use Rattle.bk_system.specs.Report.{is_call, calls_in}
-use Rattle.bk_kernel.specs.Progress.{Progress, raised, with_turns, next_turn, after_turn}
+use Rattle.bk_kernel.specs.Progress.{Progress, raised, with_arrived, with_turns, next_turn, after_turn, items_within, turn_within, within_slot}
+
+-- a turn of a slot that is the subject's
+abbrev pub turn_at : (slot s turn : ℕ) → At
+turn_at slot s turn = record { slot = slot; turn = turn; subject = s }
 
 abbrev pub Extends : List ReportItem → List ReportItem → Type 0
 Extends xs ys = (zs : List ReportItem) × (ys ≡ xs ++ zs)
@@ -20,15 +28,15 @@ turns_past slot s v m n zero e =
 turns_past slot s v m n (suc d) e =
     let next : n ≡ suc (d + m) = omega (arith, e) in
     let rest = turns_past slot s v m (d + m) d refl in
-    let last = (turn_of slot (d + m) (turns_of slot s v (d + m)).state s).items in
+    let last = (turn_of (turn_at slot s (d + m)) (turns_of slot s v (d + m)).state).items in
     (rest.0 ++ last, ap (λ k. (turns_of slot s v k).items) next ∙ ap (λ l. l ++ last) rest.1 ∙ append_assoc (turns_of slot s v m).items rest.0 last)
 
 -- one turn more
-pub turns_next : (slot s : ℕ) (v : State) (n : ℕ) → turns_of slot s v (n + 1) ≡ joined (turns_of slot s v n) (turn_of slot n (turns_of slot s v n).state s)
+pub turns_next : (slot s : ℕ) (v : State) (n : ℕ) → turns_of slot s v (n + 1) ≡ joined (turns_of slot s v n) (turn_of (turn_at slot s n) (turns_of slot s v n).state)
 turns_next slot s v n = let e : n + 1 ≡ suc n = omega arith in ap (turns_of slot s v) e
 
 -- the items of one more turn are a front of those of the slot
-pub turn_front : (slot s : ℕ) (v : State) (t n : ℕ) → t < n → Extends ((turns_of slot s v t).items ++ (turn_of slot t (turns_of slot s v t).state s).items) (turns_of slot s v n).items
+pub turn_front : (slot s : ℕ) (v : State) (t n : ℕ) → t < n → Extends ((turns_of slot s v t).items ++ (turn_of (turn_at slot s t) (turns_of slot s v t).state).items) (turns_of slot s v n).items
 turn_front slot s v t n h = let e : n ≡ (n - suc t) + suc t = omega (arith, h) in turns_past slot s v (suc t) n (n - suc t) e
 
 -- ---- counts
@@ -57,10 +65,10 @@ with_turns-none p = λ i. record {
 }
 
 -- one turn more
-pub with_turns-next : (p : Progress) (a : Step) (s t : ℕ) → p.since ≡ 0 → t < 2 ^ 16 → after_turn (with_turns p a t) s ≡ with_turns p (joined a (turn_of p.slots t a.state s)) (t + 1)
+pub with_turns-next : (p : Progress) (a : Step) (s t : ℕ) → p.since ≡ 0 → t < 2 ^ 16 → after_turn (with_turns p a t) s ≡ with_turns p (joined a (turn_of (turn_at p.slots s t) a.state)) (t + 1)
 unfolding after_turn
 with_turns-next p a s t fresh few =
-    ap (λ n. with_turns (with_turns p a t) (turn_of p.slots n a.state s) 1) number
+    ap (λ n. with_turns (with_turns p a t) (turn_of (turn_at p.slots s n) a.state) 1) number
     ∙ (λ i. record {
       state = b.state;
       slots = p.slots;
@@ -71,12 +79,37 @@ with_turns-next p a s t fresh few =
     })
   where
     b : Step
-    b = turn_of p.slots t a.state s
+    b = turn_of (turn_at p.slots s t) a.state
 
     number : raised 16 p.since t ≡ t
     number = ap (λ n. raised 16 n t) fresh ∙ raised_small t (2 ^ 16 - 1) (omega arith)
 
 -- the number of the turn that comes next
-pub turn_number : (p : Progress) (a : Step) (s t : ℕ) → p.since ≡ 0 → t < 2 ^ 16 → (next_turn (with_turns p a t) s).items ≡ (turn_of p.slots t a.state s).items
+pub turn_number : (p : Progress) (a : Step) (s t : ℕ) → p.since ≡ 0 → t < 2 ^ 16 → (next_turn (with_turns p a t) s).items ≡ (turn_of (turn_at p.slots s t) a.state).items
 turn_number p a s t fresh few =
-    ap (λ n. (turn_of p.slots n a.state s).items) (ap (λ n. raised 16 n t) fresh ∙ raised_small t (2 ^ 16 - 1) (omega arith))
+    ap (λ n. (turn_of (turn_at p.slots s n) a.state).items) (ap (λ n. raised 16 n t) fresh ∙ raised_small t (2 ^ 16 - 1) (omega arith))
+
+module _ (p : Progress) (records : List TypedAt) (fresh : p.since ≡ 0) where
+  abbrev q : Progress
+  q = with_arrived p records
+
+  abbrev s : ℕ
+  s = subject_of p.state.fixed p.slots
+
+  -- so many turns one after another are the first ones of the slot
+  pub turns_made : (n : ℕ) → n ≤ 2 ^ 16 → within_slot p records n ≡ with_turns q (turns_of p.slots s q.state n) n
+  turns_made zero few = sym (with_turns-none q)
+  turns_made (suc n) few =
+      let e : n + 1 ≡ suc n = omega arith in
+      ap (λ x. after_turn x s) (turns_made n (omega (arith, few)))
+      ∙ with_turns-next q (turns_of p.slots s q.state n) s n fresh (omega (arith, few))
+      ∙ ap (with_turns q (turns_of p.slots s q.state (suc n))) e
+
+  -- the next one is the next of the slot
+  pub turn_made : (n : ℕ) → n < 2 ^ 16 → (turn_within p records n).items ≡ (turn_of (turn_at p.slots s n) (turns_of p.slots s q.state n).state).items
+  turn_made n few = ap (λ x. (next_turn x s).items) (turns_made n (omega (arith, few))) ∙ turn_number q (turns_of p.slots s q.state n) s n fresh few
+
+  -- and their items are its items
+  pub items_made : (n : ℕ) → n ≤ 2 ^ 16 → items_within p records n ≡ (turns_of p.slots s q.state n).items
+  items_made zero few = refl
+  items_made (suc n) few = λ i. items_made n (omega (arith, few)) i ++ turn_made n (omega (arith, few)) i

@@ -12,7 +12,7 @@ use Rattle.bk_state.specs.Start.{is_line}
 use Rattle.bk_state.specs.declared.clearance.Clearance.{Clearance}
 use Rattle.bk_store.specs.Stored.{Stored, Queue, NoQueue, OfMailbox, OfLine, kept, waiting_in, with_input, with_typed}
 use Rattle.bk_store.proofs.Stands.{stands-typed}
-use Rattle.bk_system.specs.Slot.{arrived, taking, typed}
+use Rattle.bk_system.specs.Arrivals.{arrived, taking, typed}
 use Rattle.bk_kernel.specs.Tables.{state_from}
 use Rattle.bk_kernel.proofs.Kept.{kept-stands}
 

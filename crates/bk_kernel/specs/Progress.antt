@@ -1,11 +1,17 @@
 -- How far a kernel has come: the state, the slots that have ended, the turns since the last one ended, and the totals.
 -- A count stands still at the last value of its type.
-use Rattle.std.specs.Prelude.{ℕ, ◌+◌, ◌-◌, ◌^◌, min, max, List}
+use Rattle.std.specs.Prelude.{◌≡◌, ℕ, zero, suc, ◌+◌, ◌-◌, ◌^◌, ◌<◌, min, max, List, [], ◌++◌, Option}
+use Rattle.std.specs.Io.KnownBytes.{Appends}
+use Rattle.bk_base.specs.Written.{IsFront}
+use Rattle.bk_report.specs.declared.item.ReportItem.{ReportItem}
+use Rattle.bk_report.specs.Text.{lines_of}
 use Rattle.bk_state.specs.State.{State}
 use Rattle.bk_system.specs.declared.script.TypedAt.{TypedAt}
 use Rattle.bk_system.specs.Step.{Step}
 use Rattle.bk_system.specs.Turn.{turn_of}
-use Rattle.bk_system.specs.Slot.{slot_of, slot_ended, all_arrived}
+use Rattle.bk_system.specs.Event.{slot_ended}
+use Rattle.bk_system.specs.Loops.{all_arrived}
+use Rattle.bk_system.specs.Slot.{slot_of, subject_of}
 use Rattle.bk_system.specs.Report.{calls_in}
 
 pub record Progress : Type 0 where
@@ -37,7 +43,7 @@ with_turns p step turns = record {
 
 -- the turn that comes next, of the subject
 abbrev pub next_turn : Progress → (subject : ℕ) → Step
-next_turn p subject = turn_of p.slots p.since p.state subject
+next_turn p subject = turn_of (record { slot = p.slots; turn = p.since; subject = subject }) p.state
 
 unfoldable pub after_turn : Progress → (subject : ℕ) → Progress
 after_turn p subject = with_turns p (next_turn p subject) 1
@@ -58,3 +64,27 @@ next_slot p records = slot_of p.slots p.state records
 
 unfoldable pub after_slot : Progress → List TypedAt → Progress
 after_slot p records = with_slot (with_turns p (next_slot p records) p.state.fixed.turns) (next_slot p records).state
+
+-- within the next slot, at which these records arrive: after so many of its turns
+abbrev pub within_slot : Progress → List TypedAt → (turns : ℕ) → Progress
+within_slot p records zero = with_arrived p records
+within_slot p records (suc n) = after_turn (within_slot p records n) (subject_of p.state.fixed p.slots)
+
+-- the turn that comes next in it
+abbrev pub turn_within : Progress → List TypedAt → (turns : ℕ) → Step
+turn_within p records n = next_turn (within_slot p records n) (subject_of p.state.fixed p.slots)
+
+-- the items of so many of its turns
+abbrev pub items_within : Progress → List TypedAt → (turns : ℕ) → List ReportItem
+items_within p records zero = []
+items_within p records (suc n) = items_within p records n ++ (turn_within p records n).items
+
+-- a write failed in the next slot, in the turn after so many, which has been made too: what went out is the text of the
+-- turns before it and a front of its own, no further turn is made, and the slot hasn't ended
+pub record IsCutOff (p now : Progress) (records : List TypedAt) (before after : Option (List ℕ)) : Type 0 where
+  pub turns : ℕ
+  pub own : turns < p.state.fixed.turns
+  pub made : now ≡ within_slot p records (suc turns)
+  pub front : List ℕ
+  pub of_last : IsFront front (lines_of (turn_within p records turns).items)
+  pub written : Appends before after (lines_of (items_within p records turns) ++ front)

@@ -6,10 +6,9 @@ ghost use Rattle.bk_state.specs.Start.{state_of};
 ghost use Rattle.bk_kernel.specs.Progress.{begun};
 
 use crate::kernel::Kernel;
-use crate::loading::begin;
-use crate::subject_bus::SubjectBus;
 use crate::tables::Tables;
 use bk_base::NoMemory;
+use bk_load::load;
 use bk_state::Image;
 use std::alloc::Global;
 
@@ -18,20 +17,15 @@ fn tables_from(alloc: Global, image: &Image) -> Result<Tables, NoMemory>
     requires { IsAccepted image.now }
     ensures { IfOk result (λ tables. tables ≡ state_of image.now) }
 {
-    let (store, core, beginning) = begin(alloc, image)?;
+    let loaded = load(alloc, image)?;
     Ok(Tables {
-        clearances: beginning.clearances,
-        lines: beginning.lines,
-        turns: beginning.turns,
-        schedule: beginning.schedule,
-        processes: beginning.processes,
-        bus: SubjectBus {
-            store,
-            core,
-            windows: [None; 32],
-            subject: 0,
-            references: 0,
-        },
+        clearances: loaded.clearances,
+        lines: loaded.lines,
+        turns: loaded.turns,
+        schedule: loaded.schedule,
+        processes: loaded.processes,
+        store: loaded.store,
+        core: loaded.core,
     })
 }
 

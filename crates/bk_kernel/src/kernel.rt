@@ -3,19 +3,18 @@
 ghost use Rattle.std.specs.Prelude.{◌≡◌, OnOk, OnErr, All, option_to_list};
 ghost use Rattle.bk_base.specs.Written.{Took, Broke};
 ghost use Rattle.bk_report.specs.Text.{IsAnswered, lines_of};
-ghost use Rattle.std.specs.Prelude.{◌≤◌, ◌<◌, length, IfSome};
+ghost use Rattle.std.specs.Prelude.{◌≤◌, ◌<◌, length, slice_get, IfSome};
 ghost use Rattle.bk_state.specs.State.{process_of};
 ghost use Rattle.bk_system.specs.Slot.{subject_of};
 ghost use Rattle.bk_system.specs.Report.{calls_in};
 ghost use Rattle.bk_kernel.specs.Items.{items_of};
-ghost use Rattle.bk_kernel.specs.Progress.{next_turn, after_turn, after_end, next_slot, after_slot, with_arrived};
+ghost use Rattle.bk_kernel.specs.Progress.{next_turn, after_turn, after_end, next_slot, after_slot, with_arrived, IsCutOff};
 
 use crate::tables::Tables;
-use crate::turn::At;
 use bk_base::{Failed, Sink, write_all};
 use bk_process::Status9;
 use bk_report::{ReportItem, print};
-use bk_system::TypedAt;
+use bk_system::{At, TypedAt};
 use std::marker::Model;
 
 /// The totals since boot: the slots that have ended, the turns made, the references, and the calls.
@@ -99,6 +98,8 @@ impl Kernel {
     pub fn turn(&mut self, subject: u8) -> (Option<ReportItem>, Option<ReportItem>)
         ensures after { self.new ≡ after_turn self.old subject }
         ensures items { items_of result ≡ (next_turn self.old subject).items }
+        ensures first { result.0 ≡ slice_get (next_turn self.old subject).items 0 }
+        ensures second { result.1 ≡ slice_get (next_turn self.old subject).items 1 }
         ensures answered { All IsAnswered (items_of result) }
     {
         let at = At {
@@ -131,7 +132,7 @@ impl Kernel {
     }
 
     fn subject(&self) -> u8
-        ensures { result ≡ subject_of self.now.state self.now.slots }
+        ensures { result ≡ subject_of self.now.state.fixed self.now.slots }
     {
         self.tables.subject_of(self.slots)
     }
@@ -143,12 +144,14 @@ impl Kernel {
     }
 
     /// The next slot: the records typed for it arrive, its subject has its turns, and the lines of their items go out as
-    /// they arise. Where a write fails, the turn of that line has been made and the slot hasn't ended.
+    /// they arise. Where a write fails, the turn of that line has been made, no further turn is made, and the slot hasn't
+    /// ended.
     pub fn slot<O: Sink>(&mut self, typed: &[TypedAt], out: &mut O) -> Result<(), Failed>
         requires { self.old.since ≡ 0 }
         ensures after { OnOk result (self.new ≡ after_slot self.old typed.now) }
         ensures written { OnOk result (Took (O.taken out.old) (O.taken out.new) (O.faults out.old) (O.faults out.new) (lines_of (next_slot self.old typed.now).items)) }
         ensures failed { OnErr result (Broke (O.taken out.old) (O.taken out.new) (O.faults out.old) (O.faults out.new) (lines_of (next_slot self.old typed.now).items)) }
+        ensures left { OnErr result (IsCutOff self.old self.new typed.now (O.taken out.old) (O.taken out.new)) }
     {
         let subject = self.subject();
         let turns = self.turns_of_slot();
@@ -178,8 +181,8 @@ impl Kernel {
         requires { subject < length self.now.state.processes }
         ensures { IfSome (process_of self.now.state subject) (λ process. result ≡ process.status) }
     {
-        match self.tables.process(subject) {
-            Some(process) => process.status,
+        match self.tables.status(subject) {
+            Some(found) => found,
             None => Status9::Running,
         }
     }

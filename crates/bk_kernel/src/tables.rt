@@ -1,29 +1,31 @@
 // The state that the kernel keeps: what is fixed, store and core, and the processes.
 
-ghost use Rattle.std.specs.Prelude.{◌≡◌, ◌<◌, ◌≤◌, [], ◌∷◌, length, map, option_map, slice_index, if◌then◌else◌};
-ghost use Rattle.bk_process.specs.declared.status.Status9.TheVariants.{Stopped};
-ghost use Rattle.bk_space.specs.AddrSpace.{applied};
+ghost use Rattle.std.specs.Prelude.{◌≡◌, ◌<◌, ◌≤◌, [], ◌∷◌, Some, length, map, option_map, slice_index, if◌then◌else◌};
+ghost use Rattle.bk_process.specs.declared.process.Process.{Process};
 ghost use Rattle.bk_exec.specs.Exec.{exec};
 ghost use Rattle.bk_state.specs.State.{process_of};
 ghost use Rattle.bk_state.specs.Answers.{called};
 ghost use Rattle.bk_calls.specs.Made.{answer_of, line_byte};
 ghost use Rattle.bk_system.specs.Space.{space_of};
-ghost use Rattle.bk_system.specs.Turn.{with_process, written, entered, fault_number, is_reflected, with_pushes};
-ghost use Rattle.bk_system.specs.Slot.{all_arrived, arrived, slot_ended, subject_of, with_resumed};
+ghost use Rattle.bk_system.specs.Turn.{fault_number, is_reflected};
+ghost use Rattle.bk_system.specs.Arrivals.{arrived};
+ghost use Rattle.bk_system.specs.Event.{slot_ended, with_resumed};
+ghost use Rattle.bk_system.specs.Loops.{all_arrived};
+ghost use Rattle.bk_system.specs.Slot.{subject_of};
+ghost use Rattle.bk_kernel.specs.Tables.{interrupted, ran, runs, served};
 
-use crate::faulting::{Faulted, fault};
-use crate::instruction::run_one;
-use crate::subject_bus::SubjectBus;
+use bk_bus::{Executed, Faulted, fault, run_one};
 use bk_calls::{Caller, Reply, call};
-use bk_exec::Event;
+use bk_core::Core;
 use bk_process::{Process, Status9};
 use bk_space::Cause;
 use bk_state::Clearance;
+use bk_store::Store;
 use bk_system::TypedAt;
 use std::marker::Model;
 
-/// The state of the system. Of each subject, 0 to 31, it has the numbers of its levels and its process; of each line the
-/// number of its level. The bus owns store and core, and is of the subject whose turn it is.
+/// The state of the system: the store and core; of each subject, 0 to 31, the numbers of its levels and its process; of each
+/// line the number of its level.
 #[derive(Drop)]
 pub(crate) struct Tables {
     pub(crate) clearances: Vec<Clearance>,
@@ -31,7 +33,8 @@ pub(crate) struct Tables {
     pub(crate) turns: u16,
     pub(crate) schedule: Vec<u8>,
     pub(crate) processes: Vec<Process>,
-    pub(crate) bus: SubjectBus,
+    pub(crate) store: Store,
+    pub(crate) core: Core,
 }
 
 impl Model for Tables {
@@ -52,13 +55,6 @@ impl Model for Tables {
     ghost invariant = { AreKept };
 }
 
-/// How an instruction ended, and how many references it made.
-#[derive(Clone, Copy)]
-pub(crate) struct Executed {
-    pub(crate) event: Event,
-    pub(crate) references: u64,
-}
-
 impl Tables {
     /// The turns of a slot.
     pub(crate) fn turns(&self) -> u16
@@ -69,7 +65,7 @@ impl Tables {
 
     /// The subject whose slot it is.
     pub(crate) fn subject_of(&self, slot: u32) -> u8
-        ensures { result ≡ subject_of self.now slot }
+        ensures { result ≡ subject_of self.now.fixed slot }
     {
         let places = self.schedule.len();
         if places == 0 {
@@ -79,50 +75,51 @@ impl Tables {
         }
     }
 
-    /// The process of a subject.
-    pub(crate) fn process(&self, subject: u8) -> Option<Process>
-        ensures { result ≡ process_of self.now subject }
+    /// The status of the subject's process: None where there is no such subject.
+    pub(crate) fn status(&self, subject: u8) -> Option<Status9>
+        ensures { result ≡ option_map (λ process. process.status) (process_of self.now subject) }
     {
-        self.processes.get(subject as usize).copied()
+        self.processes
+            .get(subject as usize)
+            .map(|process| process.status)
     }
 
-    /// Puts a process in the place of a subject's.
-    pub(crate) fn set_process(&mut self, subject: u8, process: Process)
-        ensures { self.new ≡ with_process self.old subject process }
+    /// Whether there is such a subject, and its process runs.
+    pub(crate) fn runs(&self, subject: u8) -> bool
+        ensures { result ≡ runs (process_of self.now subject) }
     {
-        if let Some(place) = self.processes.get_mut(subject as usize) {
-            *place = process;
+        match self.processes.get(subject as usize) {
+            Some(process) => process.status == Status9::Running,
+            None => false,
         }
     }
-}
 
-impl Tables {
-    /// One instruction of the subject, by the registers and through the windows of the process.
-    #[tactic(auto, using(crate::proofs::Kept::counted_small))]
-    pub(crate) fn instruct(&mut self, subject: u8, process: &mut Process) -> Executed
+    /// R0 to R5 of the subject's process.
+    pub(crate) fn general(&self, subject: u8) -> [u16; 6]
+        requires { subject < length self.now.processes }
+        ensures { (p : Process) → process_of self.now subject ≡ Some p → result ≡ p.registers.general }
+    {
+        self.processes[subject as usize].registers.general
+    }
+
+    /// One instruction of the subject, by the registers and through the windows of its process.
+    pub(crate) fn instruct(&mut self, subject: u8) -> Executed
         requires { subject < length self.old.processes }
-        ensures state { self.new ≡ applied (written process.old.windows) self.old (exec (space_of self.old subject process.old.windows) process.old.registers).write }
-        ensures processes { self.new.processes ≡ self.old.processes }
-        ensures process { process.new ≡ record process.old { registers = (exec (space_of self.old subject process.old.windows) process.old.registers).regs } }
-        ensures event { result.event ≡ (exec (space_of self.old subject process.old.windows) process.old.registers).outcome }
-        ensures references { result.references ≡ (exec (space_of self.old subject process.old.windows) process.old.registers).references }
+        ensures state { (p : Process) → process_of self.old subject ≡ Some p → self.new ≡ ran self.old subject p (exec (space_of self.old subject p.windows) p.registers) }
+        ensures event { (p : Process) → process_of self.old subject ≡ Some p → result.event ≡ (exec (space_of self.old subject p.windows) p.registers).outcome }
+        ensures references { (p : Process) → process_of self.old subject ≡ Some p → result.references ≡ (exec (space_of self.old subject p.windows) p.registers).references }
         ensures few { result.references ≤ 8 }
     {
-        aim(&mut self.bus, subject, *process);
-        let event = run_one(&mut self.bus, &mut process.registers);
-        Executed {
-            event,
-            references: self.bus.references,
-        }
+        let process = &mut self.processes[subject as usize];
+        run_one(&self.store, &mut self.core, subject, process)
     }
 
-    /// A kernel call of the subject, by the registers of the process.
-    pub(crate) fn call(&mut self, subject: u8, process: &mut Process, number: u8) -> Reply
+    /// A kernel call of the subject, by the registers of its process.
+    pub(crate) fn call(&mut self, subject: u8, number: u8) -> Reply
         requires { subject < length self.old.processes }
-        ensures state { self.new ≡ record self.old { objects = (called self.old subject process.old number).objects; access = (called self.old subject process.old number).access } }
-        ensures process { process.new ≡ (called self.old subject process.old number).process }
-        ensures answer { result.answer ≡ answer_of (called self.old subject process.old number).cause }
-        ensures sent { result.sent ≡ option_map line_byte (called self.old subject process.old number).sent }
+        ensures state { (p : Process) → process_of self.old subject ≡ Some p → self.new ≡ served self.old subject (called self.old subject p number) }
+        ensures answer { (p : Process) → process_of self.old subject ≡ Some p → result.answer ≡ answer_of (called self.old subject p number).cause }
+        ensures sent { (p : Process) → process_of self.old subject ≡ Some p → result.sent ≡ option_map line_byte (called self.old subject p number).sent }
     {
         let levels = self.clearances[subject as usize];
         let caller = Caller {
@@ -131,41 +128,23 @@ impl Tables {
             f_c: levels.current,
             subjects: self.clearances.len() as u8,
         };
-        call(
-            &mut self.bus.store,
-            &mut self.bus.core,
-            process,
-            &caller,
-            number,
-        )
+        let process = &mut self.processes[subject as usize];
+        call(&mut self.store, &mut self.core, process, &caller, number)
     }
 
     /// A fault of the subject, which its process takes at its entry, or which stops it.
-    pub(crate) fn fault(&mut self, subject: u8, process: &mut Process, cause: Cause) -> Faulted
+    pub(crate) fn fault(&mut self, subject: u8, cause: Cause) -> Faulted
         requires { subject < length self.old.processes }
         ensures number { result.number ≡ fault_number cause }
-        ensures pc { result.pc ≡ process.old.registers.pc }
-        ensures taken { result.taken ≡ is_reflected self.old subject process.old (slice_index process.old.entries (fault_number cause)) }
-        ensures process { process.new ≡ (if result.taken then entered process.old (slice_index process.old.entries (fault_number cause)) else record process.old { status = Stopped (fault_number cause) }) }
-        ensures state { self.new ≡ (if result.taken then with_pushes self.old process.old else self.old) }
+        ensures pc { (p : Process) → process_of self.old subject ≡ Some p → result.pc ≡ p.registers.pc }
+        ensures taken { (p : Process) → process_of self.old subject ≡ Some p → result.taken ≡ is_reflected self.old subject p (slice_index p.entries (fault_number cause)) }
+        ensures references { result.references ≡ (if result.taken then 2 else 0) }
+        ensures few { result.references ≤ 2 }
+        ensures state { (p : Process) → process_of self.old subject ≡ Some p → self.new ≡ interrupted self.old subject p (fault_number cause) (slice_index p.entries (fault_number cause)) result.taken }
     {
-        aim(&mut self.bus, subject, *process);
-        fault(&mut self.bus, process, cause)
+        let process = &mut self.processes[subject as usize];
+        fault(&self.store, &mut self.core, subject, process, cause)
     }
-}
-
-// The turn is the subject's, with the windows of its process, and no reference has been made in it.
-fn aim(bus: &mut SubjectBus, subject: u8, process: Process)
-    requires { subject < 32 }
-    ensures store { bus.new.store ≡ bus.old.store }
-    ensures core { bus.new.core ≡ bus.old.core }
-    ensures subject { bus.new.subject ≡ subject }
-    ensures windows { bus.new.windows ≡ process.windows }
-    ensures references { bus.new.references ≡ 0 }
-{
-    let windows = process.windows;
-    bus.begin(subject, windows);
-    bus.references = 0;
 }
 
 fn resume(process: &mut Process)
@@ -186,11 +165,11 @@ fn resume_all(processes: &mut [Process])
 
 impl Tables {
     /// A byte arrives on a line.
-    #[tactic(auto, unfolding(bk_system::specs::Slot::arrived))]
+    #[tactic(auto, unfolding(bk_system::specs::Arrivals::arrived))]
     fn type_byte(&mut self, line: u8, byte: u8)
         ensures { self.new ≡ arrived self.old line (byte ∷ []) }
     {
-        self.bus.store.type_byte(line, byte);
+        self.store.type_byte(line, byte);
     }
 
     /// Bytes arrive on a line, in order.
@@ -212,7 +191,7 @@ impl Tables {
     }
 
     /// A slot ends: each paused process runs again.
-    #[tactic(auto, unfolding(bk_system::specs::Slot::slot_ended))]
+    #[tactic(auto, unfolding(bk_system::specs::Event::slot_ended))]
     pub(crate) fn end_slot(&mut self)
         ensures { self.new ≡ slot_ended self.old }
     {

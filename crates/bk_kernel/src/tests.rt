@@ -1,12 +1,12 @@
 // Runs whose reports were worked out by hand from the tables of the processor, of the kernel calls and of the report.
 
-mod fixture;
+mod runs;
 
-use bk_object::Kind;
+use bk_fixture::{Object, Part, SYSTEM, Subject, System, USER, line, segment};
 use bk_process::Status9;
 use bk_report::ReportItem;
 use bk_space::Mode;
-use fixture::{Object, Part, Subject, System, USER, Wanted, booted, check, run, segment, status};
+use runs::{Wanted, booted, check, registers, status};
 use std::alloc::Global;
 use std::process::Abort as Ends;
 use std::test::Fail;
@@ -43,6 +43,7 @@ fn takes_a_window_away_with_its_access(rt: HostRuntime) -> Result<(), Fail> {
             // rescind, stop
             segment(1, &[(0, &[0o104007, 0o104026])], &[(1, E)]),
         ],
+        ..SYSTEM
     };
     let report = b"C 1 0 1 007 000000 010400 000000 000001 000000 000000 yes 0
 C 1 1 1 026 000000 000000 000000 000001 000000 000000 yes 0
@@ -68,7 +69,6 @@ fn reads_zeros_of_what_was_created_anew(rt: HostRuntime) -> Result<(), Fail> {
     entries[1] = 0o60;
     let system = System {
         turns: 20,
-        schedule: &[0],
         subjects: &[Subject {
             general: [0, 0, 0, 0, 0, 0o010400],
             supervisor: 0o100,
@@ -102,6 +102,7 @@ fn reads_zeros_of_what_was_created_anew(rt: HostRuntime) -> Result<(), Fail> {
             segment(1, &[(0, &[0o000123])], &[(0, W)]),
             segment(1, &[], &[(0, W)]),
         ],
+        ..SYSTEM
     };
     let report = b"C 0 2 0 011 000000 010400 000000 000123 000000 010400 yes 0
 F 0 3 0 1 000010 enter
@@ -127,13 +128,12 @@ fn refer<'a>(
     let holders = [(0, program.1)];
     let system = System {
         turns: 4,
-        schedule: &[0],
         subjects: &[Subject {
             windows: &[(16, 0), (25, 1)],
             ..USER
         }],
-        root: &[],
         objects: &[segment(1, &words, &holders), object],
+        ..SYSTEM
     };
     check(rt, alloc, &system, &[&[]], wanted)?;
     Ok(())
@@ -219,7 +219,6 @@ fn keeps_its_modes_in_a_return(rt: HostRuntime) -> Result<(), Fail> {
     entries[7] = 0o120;
     let system = System {
         turns: 7,
-        schedule: &[0],
         subjects: &[Subject {
             user: 0o020000,
             supervisor: 0o100,
@@ -227,7 +226,6 @@ fn keeps_its_modes_in_a_return(rt: HostRuntime) -> Result<(), Fail> {
             windows: &[(0, 0), (8, 2), (16, 0), (25, 1)],
             ..USER
         }],
-        root: &[],
         objects: &[
             segment(
                 2,
@@ -243,6 +241,7 @@ fn keeps_its_modes_in_a_return(rt: HostRuntime) -> Result<(), Fail> {
             segment(1, &[(0, &[0o000100])], &[(0, W)]),
             segment(1, &[], &[(0, W)]),
         ],
+        ..SYSTEM
     };
     let report = b"F 0 4 0 7 000110 enter
 C 0 6 0 027 000000 000000 174000 000002 020002 000000 ? 20
@@ -281,7 +280,6 @@ C 0 9 0 027 000000 000000 001234 000100 174017 000374 ? 20
         let holders = [(0, held)];
         let system = System {
             turns: 10,
-            schedule: &[0],
             subjects: &[Subject {
                 mode,
                 user: 0o1234,
@@ -291,7 +289,6 @@ C 0 9 0 027 000000 000000 001234 000100 174017 000374 ? 20
                 windows: &[(0, 1), (8, 2), (16, 0)],
                 ..USER
             }],
-            root: &[],
             objects: &[
                 segment(2, &[(0o76, &[0o000277])], &[(0, E)]),
                 segment(
@@ -307,9 +304,43 @@ C 0 9 0 027 000000 000000 001234 000100 174017 000374 ? 20
                 ),
                 segment(4, &[], &holders),
             ],
+            ..SYSTEM
         };
         check(&rt, rt.alloc(), &system, &[&[]], wanted)?;
     }
+    Ok(())
+}
+
+// The whole status before and after a fault, with all condition codes set before it.
+#[test]
+fn reflects_with_the_whole_status(rt: HostRuntime) -> Result<(), Fail> {
+    let mut entries = [0; 8];
+    entries[4] = 0o200;
+    let system = System {
+        subjects: &[Subject {
+            supervisor: 0o400,
+            pc: 0o76,
+            entries,
+            windows: &[(0, 0), (8, 1), (16, 0)],
+            ..USER
+        }],
+        objects: &[
+            // SCC; then HALT
+            segment(3, &[(0o76, &[0o000277])], &[(0, E)]),
+            segment(4, &[], &[(0, W)]),
+        ],
+        ..SYSTEM
+    };
+    let mut kernel = booted(&rt, rt.alloc(), &system)?;
+    kernel.turn(0);
+    let before = registers(&kernel).ok_or("no process")?;
+    assert_eq!(rt; (before.ps.word(), before.supervisor), (0o174017, 0o400));
+    kernel.turn(0);
+    let after = registers(&kernel).ok_or("no process")?;
+    assert_eq!(rt;
+        (after.ps.word(), after.supervisor, after.pc),
+        (0o074000, 0o374, 0o200)
+    );
     Ok(())
 }
 
@@ -347,7 +378,6 @@ fn tests_both_words_before_either_is_written(rt: HostRuntime) -> Result<(), Fail
                     ..USER
                 },
             ],
-            root: &[],
             objects: &[
                 segment(1, &[(0, &[0o104400])], &[(0, E)]),
                 // BR to itself
@@ -361,6 +391,7 @@ fn tests_both_words_before_either_is_written(rt: HostRuntime) -> Result<(), Fail
                     &[(1, E)],
                 ),
             ],
+            ..SYSTEM
         };
         let wanted: Wanted = if taken {
             (
@@ -413,17 +444,16 @@ F 0 2 0 5 000104 stop
         let words: [Part; 2] = [(0, &first), (0o100, &[0o104027, 0o000001])];
         let system = System {
             turns: 4,
-            schedule: &[0],
             subjects: &[Subject {
                 user: 0o020000,
                 windows: &[(16, 0), (25, 1)],
                 ..USER
             }],
-            root: &[],
             objects: &[
                 segment(2, &words, &[(0, E)]),
                 segment(1, &[(0, &[0o000100, 0o000020])], &[(0, R)]),
             ],
+            ..SYSTEM
         };
         check(&rt, rt.alloc(), &system, &[&[]], wanted)?;
     }
@@ -435,36 +465,31 @@ const ECHO: [u16; 8] = [
     0o010501, 0o104020, 0o010203, 0o005002, 0o010501, 0o104017, 0o104024, 0o000770,
 ];
 
-// Takes typed bytes, each of which the next call shows in R3.
-const TAKE: [u16; 5] = [0o010501, 0o104020, 0o010203, 0o005002, 0o000773];
+// A subject with a program in `/0`, and with the line `/1`, whose path begins with the word in R5.
+const WITH_A_LINE: Subject = Subject {
+    general: [0, 0, 0, 0, 0, 0o010400],
+    ..USER
+};
 
-// A program, and below it in the order of paths the line `/1`, which the subject holds.
 fn with_a_line<'a>(program: &'a [Part<'a>]) -> [Object<'a>; 2] {
-    [
-        segment(1, program, &[(0, E)]),
-        Object {
-            kind: Kind::Line(0),
-            blocks: 0,
-            words: &[],
-            held: &[(0, W)],
-        },
-    ]
+    [segment(1, program, &[(0, E)]), line(0, &[(0, W)])]
+}
+
+fn system_of<'a>(turns: u16, subjects: &'a [Subject<'a>], objects: &'a [Object<'a>]) -> System<'a> {
+    System {
+        turns,
+        subjects,
+        root: &[(0, R)],
+        objects,
+        ..SYSTEM
+    }
 }
 
 // Two bytes are typed before the first slot. A byte goes out right after its call, and a pause lasts until its slot ends.
 #[test]
 fn pauses_until_its_slot_ends(rt: HostRuntime) -> Result<(), Fail> {
     let objects = with_a_line(&[(0, &ECHO)]);
-    let system = System {
-        turns: 10,
-        schedule: &[0],
-        subjects: &[Subject {
-            general: [0, 0, 0, 0, 0, 0o010400],
-            ..USER
-        }],
-        root: &[(0, R)],
-        objects: &objects,
-    };
+    let system = system_of(10, &[WITH_A_LINE], &objects);
     let report = b"C 0 1 0 020 000000 010400 000000 000000 000000 010400 yes 0
 C 0 5 0 017 000000 010400 000000 000150 000000 010400 yes 0
 L 0 5 0 150
@@ -489,16 +514,7 @@ C 1 7 0 024 000000 000000 000000 000151 000000 010400 yes 0
 #[test]
 fn is_paused_until_its_slot_ends(rt: HostRuntime) -> Result<(), Fail> {
     let objects = with_a_line(&[(0, &ECHO)]);
-    let system = System {
-        turns: 10,
-        schedule: &[0],
-        subjects: &[Subject {
-            general: [0, 0, 0, 0, 0, 0o010400],
-            ..USER
-        }],
-        root: &[(0, R)],
-        objects: &objects,
-    };
+    let system = system_of(10, &[WITH_A_LINE], &objects);
     let mut kernel = booted(&rt, rt.alloc(), &system)?;
     for _ in 0..6 {
         kernel.turn(0);
@@ -518,34 +534,5 @@ fn is_paused_until_its_slot_ends(rt: HostRuntime) -> Result<(), Fail> {
     assert_eq!(rt; kernel.turn(0), (None, None));
     kernel.end_slot();
     assert_eq!(rt; status(&rt, &kernel, 0), Status9::Running);
-    Ok(())
-}
-
-// 65 bytes are typed, 1 to 64 and another, which is lost: the call after the 64th finds that byte in R3, and no more.
-#[test]
-fn loses_a_byte_for_a_full_line(rt: HostRuntime) -> Result<(), Fail> {
-    let objects = with_a_line(&[(0, &TAKE)]);
-    let system = System {
-        turns: 322,
-        schedule: &[0],
-        subjects: &[Subject {
-            general: [0, 0, 0, 0, 0, 0o010400],
-            ..USER
-        }],
-        root: &[(0, R)],
-        objects: &objects,
-    };
-    let mut bytes = [0o377; 65];
-    for n in 0..64u8 {
-        bytes[usize::from(n)] = n + 1;
-    }
-    let (kernel, out) = run(&rt, rt.alloc(), &system, &[&[(0, &bytes), (0, b"x")]])?;
-    let last = b"\nC 0 321 0 020 000000 010400 000000 000100 000000 010400 no 9\n";
-    assert!(rt; out.taken().ends_with(last));
-    let totals = kernel.summary();
-    assert_eq!(rt;
-        (totals.turns, totals.references, totals.calls),
-        (322, 322, 65)
-    );
     Ok(())
 }

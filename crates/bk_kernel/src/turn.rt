@@ -1,24 +1,28 @@
 // A turn of a subject.
 
-ghost use Rattle.std.specs.Prelude.{◌≡◌, ◌<◌, ◌≤◌, ◌+◌, [], All, length, option_map, option_to_list};
+ghost use Rattle.std.specs.Prelude.{◌≡◌, ◌<◌, ◌≤◌, [], All, Some, length, option_map, option_to_list};
+ghost use Rattle.bk_process.specs.declared.process.Process.{Process};
+ghost use Rattle.bk_exec.specs.declared.event.Event.TheVariants.{Fault as Faults};
+ghost use Rattle.bk_state.specs.State.{process_of};
 ghost use Rattle.bk_report.specs.Text.{IsAnswered};
 ghost use Rattle.bk_report.specs.declared.item.ReportItem.TheVariants.{Call, Fault};
 ghost use Rattle.bk_state.specs.Answers.{called};
-ghost use Rattle.bk_state.specs.Checks.{Cause as Refusal};
+ghost use Rattle.bk_state.specs.Causes.{answer_in, cause_in};
+ghost use Rattle.bk_state.specs.declared.cause.Cause.{Cause as Refusal};
 ghost use Rattle.bk_exec.specs.Exec.{exec};
 ghost use Rattle.bk_calls.specs.Made.{answer_of, line_byte};
 ghost use Rattle.bk_system.specs.Space.{space_of};
-ghost use Rattle.bk_system.specs.Turn.{answer_in, cause_in, byte_item, settled, fault_number, is_reflected, faulted, ended, took, turn_of};
-ghost use Rattle.std.specs.Prelude.{ℕ, Option, slice_index, if◌then◌else◌};
-ghost use Rattle.bk_kernel.specs.Items.{items_of};
+ghost use Rattle.bk_system.specs.Turn.{byte_item, settled, ended, executed, turn_of};
+ghost use Rattle.std.specs.Prelude.{ℕ, Option};
+ghost use Rattle.bk_kernel.specs.Items.{items_of, IsInOrder};
 
-use crate::faulting::Faulted;
-use crate::tables::{Executed, Tables};
+use crate::tables::Tables;
+use bk_bus::{Executed, Faulted};
 use bk_calls::{Answer, LineByte};
 use bk_exec::Event;
-use bk_process::{Process, Status9};
 use bk_report::ReportItem;
 use bk_space::Cause;
+use bk_system::At;
 
 /// The items of a turn, at most two, in their order.
 pub(crate) type Items = (Option<ReportItem>, Option<ReportItem>);
@@ -28,14 +32,6 @@ pub(crate) type Items = (Option<ReportItem>, Option<ReportItem>);
 pub(crate) struct Turned {
     pub(crate) items: Items,
     pub(crate) references: u64,
-}
-
-/// Whose turn it is: the number of the slot, that of the turn in it, and the subject.
-#[derive(Clone, Copy)]
-pub(crate) struct At {
-    pub(crate) slot: u32,
-    pub(crate) turn: u16,
-    pub(crate) subject: u8,
 }
 
 // The item of a call that found these registers.
@@ -61,7 +57,7 @@ fn call_item(at: At, number: u8, regs: [u16; 6], answer: Answer) -> ReportItem
 
 // The item of a byte that went out on a line.
 fn byte_item(at: At, sent: Option<LineByte>) -> Option<ReportItem>
-    ensures item { (x : Option (ℕ × ℕ)) → sent ≡ option_map line_byte x → option_to_list result ≡ byte_item at.slot at.turn x }
+    ensures item { (x : Option (ℕ × ℕ)) → sent ≡ option_map line_byte x → option_to_list result ≡ byte_item at x }
     ensures answered { All IsAnswered (option_to_list result) }
 {
     match sent {
@@ -90,16 +86,9 @@ fn fault_item(at: At, fault: Faulted) -> ReportItem
     }
 }
 
-// The references of a fault.
-fn pushes(taken: bool) -> u64
-    ensures value { result ≡ (if taken then 2 else 0) }
-    ensures few { result ≤ 2 }
-{
-    if taken { 2 } else { 0 }
-}
-
 fn idle() -> Turned
     ensures items { items_of result.items ≡ [] }
+    ensures order { IsInOrder result.items }
     ensures references { result.references ≡ 0 }
 {
     Turned {
@@ -110,90 +99,86 @@ fn idle() -> Turned
 
 impl Tables {
     // A call: its item, and the byte that goes out.
-    fn settle(&mut self, at: At, process: Process, number: u8) -> Items
+    fn settle(&mut self, at: At, number: u8) -> Items
         requires { at.subject < length self.old.processes }
-        ensures state { self.new ≡ (settled self.old at.slot at.turn at.subject process number 0 (called self.old at.subject process number)).state }
-        ensures items { items_of result ≡ (settled self.old at.slot at.turn at.subject process number 0 (called self.old at.subject process number)).items }
+        ensures state { (p : Process) → process_of self.old at.subject ≡ Some p → self.new ≡ (settled self.old at p number 0 (called self.old at.subject p number)).state }
+        ensures items { (p : Process) → process_of self.old at.subject ≡ Some p → items_of result ≡ (settled self.old at p number 0 (called self.old at.subject p number)).items }
+        ensures order { IsInOrder result }
         ensures answered { All IsAnswered (items_of result) }
     {
-        let mut after = process;
-        let reply = self.call(at.subject, &mut after, number);
-        self.set_process(at.subject, after);
-        let item = call_item(at, number, process.registers.general, reply.answer);
+        let found = self.general(at.subject);
+        let reply = self.call(at.subject, number);
+        let item = call_item(at, number, found, reply.answer);
         let sent = byte_item(at, reply.sent);
         (Some(item), sent)
     }
 
     // A fault, which the process takes at its entry with two references, or which stops it.
-    fn end_in(&mut self, at: At, process: Process, cause: Cause, references: u64) -> Turned
+    fn end_in(&mut self, at: At, cause: Cause, references: u64) -> Turned
         requires there { at.subject < length self.old.processes }
         requires few { references ≤ 8 }
-        ensures state { self.new ≡ (faulted self.old at.slot at.turn at.subject process (fault_number cause) references (slice_index process.entries (fault_number cause)) (is_reflected self.old at.subject process (slice_index process.entries (fault_number cause)))).state }
-        ensures items { items_of result.items ≡ (faulted self.old at.slot at.turn at.subject process (fault_number cause) references (slice_index process.entries (fault_number cause)) (is_reflected self.old at.subject process (slice_index process.entries (fault_number cause)))).items }
-        ensures references { result.references ≡ (faulted self.old at.slot at.turn at.subject process (fault_number cause) references (slice_index process.entries (fault_number cause)) (is_reflected self.old at.subject process (slice_index process.entries (fault_number cause)))).references }
+        ensures state { (p : Process) → process_of self.old at.subject ≡ Some p → self.new ≡ (ended self.old at p references (Faults cause)).state }
+        ensures items { (p : Process) → process_of self.old at.subject ≡ Some p → items_of result.items ≡ (ended self.old at p references (Faults cause)).items }
+        ensures references { (p : Process) → process_of self.old at.subject ≡ Some p → result.references ≡ (ended self.old at p references (Faults cause)).references }
+        ensures order { IsInOrder result.items }
         ensures answered { All IsAnswered (items_of result.items) }
     {
-        let mut after = process;
-        let fault = self.fault(at.subject, &mut after, cause);
-        self.set_process(at.subject, after);
+        let fault = self.fault(at.subject, cause);
         Turned {
             items: (Some(fault_item(at, fault)), None),
-            references: references + pushes(fault.taken),
+            references: references + fault.references,
         }
     }
 
     // What an instruction that ended so does.
-    fn end(&mut self, at: At, process: Process, executed: Executed) -> Turned
+    fn end(&mut self, at: At, executed: Executed) -> Turned
         requires there { at.subject < length self.old.processes }
         requires few { executed.references ≤ 8 }
-        ensures state { self.new ≡ (ended self.old at.slot at.turn at.subject process executed.references executed.event).state }
-        ensures items { items_of result.items ≡ (ended self.old at.slot at.turn at.subject process executed.references executed.event).items }
-        ensures references { result.references ≡ (ended self.old at.slot at.turn at.subject process executed.references executed.event).references }
+        ensures state { (p : Process) → process_of self.old at.subject ≡ Some p → self.new ≡ (ended self.old at p executed.references executed.event).state }
+        ensures items { (p : Process) → process_of self.old at.subject ≡ Some p → items_of result.items ≡ (ended self.old at p executed.references executed.event).items }
+        ensures references { (p : Process) → process_of self.old at.subject ≡ Some p → result.references ≡ (ended self.old at p executed.references executed.event).references }
+        ensures order { IsInOrder result.items }
         ensures answered { All IsAnswered (items_of result.items) }
     {
         match executed.event {
-            Event::Ran => {
-                self.set_process(at.subject, process);
-                Turned {
-                    items: (None, None),
-                    references: executed.references,
-                }
-            }
-            Event::Call(number) => Turned {
-                items: self.settle(at, process, number),
+            Event::Ran => Turned {
+                items: (None, None),
                 references: executed.references,
             },
-            Event::Fault(cause) => self.end_in(at, process, cause, executed.references),
+            Event::Call(number) => Turned {
+                items: self.settle(at, number),
+                references: executed.references,
+            },
+            Event::Fault(cause) => self.end_in(at, cause, executed.references),
         }
     }
 
     // A turn of a process that runs.
-    fn take(&mut self, at: At, process: Process) -> Turned
+    fn take(&mut self, at: At) -> Turned
         requires { at.subject < length self.old.processes }
-        ensures state { self.new ≡ (took self.old at.slot at.turn at.subject process (exec (space_of self.old at.subject process.windows) process.registers)).state }
-        ensures items { items_of result.items ≡ (took self.old at.slot at.turn at.subject process (exec (space_of self.old at.subject process.windows) process.registers)).items }
-        ensures references { result.references ≡ (took self.old at.slot at.turn at.subject process (exec (space_of self.old at.subject process.windows) process.registers)).references }
+        ensures state { (p : Process) → process_of self.old at.subject ≡ Some p → self.new ≡ (executed self.old at p (exec (space_of self.old at.subject p.windows) p.registers)).state }
+        ensures items { (p : Process) → process_of self.old at.subject ≡ Some p → items_of result.items ≡ (executed self.old at p (exec (space_of self.old at.subject p.windows) p.registers)).items }
+        ensures references { (p : Process) → process_of self.old at.subject ≡ Some p → result.references ≡ (executed self.old at p (exec (space_of self.old at.subject p.windows) p.registers)).references }
+        ensures order { IsInOrder result.items }
         ensures answered { All IsAnswered (items_of result.items) }
     {
-        let mut after = process;
-        let executed = self.instruct(at.subject, &mut after);
-        self.end(at, after, executed)
+        let executed = self.instruct(at.subject);
+        self.end(at, executed)
     }
 
     /// A turn.
     #[tactic(auto, unfolding(bk_system::specs::Turn::turn_of))]
     pub(crate) fn turn(&mut self, at: At) -> Turned
-        ensures state { self.new ≡ (turn_of at.slot at.turn self.old at.subject).state }
-        ensures items { items_of result.items ≡ (turn_of at.slot at.turn self.old at.subject).items }
-        ensures references { result.references ≡ (turn_of at.slot at.turn self.old at.subject).references }
+        ensures state { self.new ≡ (turn_of at self.old).state }
+        ensures items { items_of result.items ≡ (turn_of at self.old).items }
+        ensures references { result.references ≡ (turn_of at self.old).references }
+        ensures order { IsInOrder result.items }
         ensures answered { All IsAnswered (items_of result.items) }
     {
-        match self.process(at.subject) {
-            Some(process) => match process.status {
-                Status9::Running => self.take(at, process),
-                Status9::Paused | Status9::Stopped(_) => idle(),
-            },
-            None => idle(),
+        if self.runs(at.subject) {
+            self.take(at)
+        } else {
+            idle()
         }
     }
 }

@@ -1,4 +1,4 @@
-use Rattle.bk_system.specs.Slot.{with_resumed}
+use Rattle.bk_system.specs.Event.{with_resumed}
 use Rattle.bk_kernel.proofs.InPlace.{mapped_next}
 use Rattle.bk_kernel.proofs.tables.resume_all.Goals as goal
 

@@ -1,5 +1,5 @@
 use Rattle.std.proofs.Common.{◌≡◌, ◌++◌, map, take, drop}
-use Rattle.bk_system.specs.Slot.{with_resumed}
+use Rattle.bk_system.specs.Event.{with_resumed}
 use Rattle.bk_kernel.proofs.tables.resume_all.Given as goal
 
 abbrev pub invariant-loop-process : goal.invariant-loop-process

@@ -1,7 +1,7 @@
 use Rattle.std.proofs.Common.{◌∙◌, ℕ, suc, List, drop, get_or, sym, ap, add-one, drop-cons}
 use Rattle.std.proofs.lemmas.List.{drop_all}
 use Rattle.bk_state.specs.State.{State}
-use Rattle.bk_system.specs.Slot.{arrived}
+use Rattle.bk_system.specs.Arrivals.{arrived}
 use Rattle.bk_kernel.proofs.Typing.{arrived-cons, arrived-none}
 use Rattle.bk_kernel.proofs.tables.Tables.type_bytes.Goals as goal
 

@@ -1,5 +1,5 @@
 use Rattle.std.proofs.Common.{◌≡◌, drop}
-use Rattle.bk_system.specs.Slot.{arrived}
+use Rattle.bk_system.specs.Arrivals.{arrived}
 use Rattle.bk_kernel.proofs.tables.Tables.type_bytes.Given as goal
 
 abbrev pub invariant-loop-byte : goal.invariant-loop-byte

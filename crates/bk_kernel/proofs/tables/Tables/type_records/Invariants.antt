@@ -1,5 +1,5 @@
 use Rattle.std.proofs.Common.{◌≡◌, drop}
-use Rattle.bk_system.specs.Slot.{all_arrived}
+use Rattle.bk_system.specs.Loops.{all_arrived}
 use Rattle.bk_kernel.proofs.tables.Tables.type_records.Given as goal
 
 abbrev pub invariant-loop-record : goal.invariant-loop-record

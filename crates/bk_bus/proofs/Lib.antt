@@ -1,0 +1,4 @@
+pub mod Seen
+pub mod Written
+pub mod Alike
+pub mod Reflected

@@ -1,0 +1,5 @@
+use Rattle.bk_load.specs.Loading.{HasFront}
+use Rattle.bk_load.proofs.loading.load_objects.Given as goal
+
+abbrev pub invariant-loop-i : goal.invariant-loop-i
+invariant-loop-i l = HasFront l.image l.i l.store l.core.words

@@ -1,0 +1,123 @@
+// A store and a core, loaded from an image.
+
+ghost use Rattle.std.specs.Prelude.{◌≡◌, ◌≤◌, ℕ, List, All, IfOk, Some, length};
+ghost use Rattle.std.specs.FinMap as map;
+ghost use Rattle.bk_object.specs.Limits.{most_blocks};
+ghost use Rattle.bk_image.specs.Accepted.{IsAccepted};
+ghost use Rattle.bk_image.specs.Objects.{room};
+ghost use Rattle.bk_load.specs.Loading.{with_holds, CanHold, CanTake, HasFront, HasOneMore, IsLoaded};
+ghost use Rattle.bk_load.specs.Kept.{state_loaded, AreKept};
+ghost use Rattle.bk_state.specs.Start.{object_from, state_of};
+ghost use Rattle.bk_store.specs.Stored.{fresh, objects_of, IsCreated};
+
+use crate::beginning::Beginning;
+use bk_base::NoMemory;
+use bk_core::Core;
+use bk_process::Process;
+use bk_state::{Clearance, Hold, Image, ObjectRec};
+use bk_store::Store;
+use std::alloc::Global;
+
+/// The state of a system: the store with the core in which its segments stand; of each subject, in the order of their
+/// numbers, the numbers of its levels and its process; of each line the number of its level; the turns of a slot, and the
+/// schedule.
+#[derive(Drop)]
+pub struct Loaded {
+    pub store: Store,
+    pub core: Core,
+    pub clearances: Vec<Clearance>,
+    pub lines: Vec<u8>,
+    pub turns: u16,
+    pub schedule: Vec<u8>,
+    pub processes: Vec<Process>,
+}
+
+// A new object is there, without its words.
+fn create(store: &mut Store, core: &mut Core, object: &ObjectRec)
+    requires { CanTake store.old object.now }
+    ensures { IsCreated store.old store.new core.old.words core.new.words object.now.path object.now.facts }
+{
+    store.create(core, object.path, object.facts).unwrap();
+}
+
+// The words of a new object, of which each is zero, become the image's from the first one on.
+fn write_words(store: &Store, core: &mut Core, object: &ObjectRec)
+    requires new { map.get (objects_of store.now core.old.words) object.now.path ≡ Some (fresh object.now.facts) }
+    requires words { length object.now.words ≤ room object.now.facts }
+    requires blocks { object.now.facts.blocks ≤ most_blocks }
+    ensures { objects_of store.now core.new.words ≡ map.insert (objects_of store.now core.old.words) object.now.path (object_from object.now) }
+{
+    let words = object.words.as_slice();
+    for i in 0..words.len() {
+        store.write_word(core, object.path, 2 * i as u16, words[i]);
+    }
+}
+
+fn load_object(store: &mut Store, core: &mut Core, object: &ObjectRec)
+    requires { CanTake store.old object.now }
+    ensures { HasOneMore store.old store.new core.old.words core.new.words object.now }
+{
+    create(store, core, object);
+    write_words(store, core, object);
+}
+
+// All objects after root, each after its parent.
+fn load_objects(store: &mut Store, core: &mut Core, image: &Image)
+    requires accepted { IsAccepted image.now }
+    requires root { HasFront image.now 1 store.old core.old.words }
+    ensures { HasFront image.now (length image.now.objects) store.new core.new.words }
+{
+    let objects = image.objects.as_slice();
+    for i in 1..objects.len() {
+        load_object(store, core, &objects[i]);
+    }
+}
+
+fn load_holds(store: &mut Store, holds: &[Hold])
+    requires { All (CanHold store.old) holds.now }
+    ensures { store.new ≡ with_holds holds.now store.old }
+{
+    for hold in holds {
+        store.hold(hold.subject, hold.path, hold.modes);
+    }
+}
+
+// A store of root alone.
+fn reserve_root(alloc: Global, image: &Image) -> Result<Store, NoMemory>
+    requires { IsAccepted image.now }
+    ensures { IfOk result (λ store. (words : List ℕ) → HasFront image.now 1 store words) }
+{
+    let root = &image.objects.as_slice()[0];
+    Store::reserve(alloc, image.levels, root.facts, image.lines)
+}
+
+// The store and the core of an accepted image's state.
+fn load_store(alloc: Global, image: &Image) -> Result<(Store, Core), NoMemory>
+    requires { IsAccepted image.now }
+    ensures { IfOk result (λ loaded. IsLoaded image.now loaded.0 loaded.1.words) }
+{
+    let mut store = reserve_root(alloc, image)?;
+    let mut core = Core::reserve(alloc)?;
+    load_objects(&mut store, &mut core, image);
+    load_holds(&mut store, image.holds.as_slice());
+    Ok((store, core))
+}
+
+/// The state of an accepted image. All memory that it needs is taken here; `NoMemory` comes where the host has no more.
+pub fn load(alloc: Global, image: &Image) -> Result<Loaded, NoMemory>
+    requires { IsAccepted image.now }
+    ensures state { IfOk result (λ loaded. state_loaded loaded ≡ state_of image.now) }
+    ensures kept { IfOk result (λ loaded. AreKept loaded) }
+{
+    let (store, core) = load_store(alloc, image)?;
+    let beginning = Beginning::from_image(alloc, image)?;
+    Ok(Loaded {
+        store,
+        core,
+        clearances: beginning.clearances,
+        lines: beginning.lines,
+        turns: beginning.turns,
+        schedule: beginning.schedule,
+        processes: beginning.processes,
+    })
+}
