@@ -1,4 +1,3 @@
-pub mod Loops
 pub mod Words
 pub mod Ordered
 pub mod Pairs
@@ -7,8 +6,7 @@ pub mod Takes
 pub mod Spelt
 pub mod Steps
 pub mod SpeltImage
-pub mod Grown
-pub mod Cut
+pub mod Fronts
 pub mod SecureLists
 pub mod SecureFound
 pub mod SecureObjects
@@ -17,6 +15,7 @@ pub mod SecureCells
 pub mod SecureRows
 pub mod SecureAccess
 pub mod SecureSubjects
+pub mod SecureShape
 pub mod Secure
 pub mod PassedParts
 pub mod PassedKinds

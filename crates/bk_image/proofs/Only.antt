@@ -1,5 +1,6 @@
 -- What is spelt is read as itself, if it is read.
-use Rattle.std.proofs.Common.{◌≡◌, ℕ, ◌+◌, ◌*◌, ◌/◌, ◌%◌, List, [], ◌∷◌, ◌++◌, length, take, drop, Result, Ok, Err, refl, sym, ap, subst, ◌∙◌, append_assoc, arith, ◌==◌}
+use Rattle.std.proofs.Common.{◌≡◌, ℕ, ◌+◌, ◌*◌, ◌/◌, ◌%◌, List, [], ◌∷◌, ◌++◌, length, take, drop, Result, Ok, Err, refl, sym, ap, subst, ◌∙◌, append_assoc}
+use Rattle.std.proofs.Common.{arith, ◌==◌}
 use Rattle.std.specs.Prelude.{not, is_none, unwrap_or, flat_map, All}
 use Rattle.std.proofs.lemmas.List.{append-nil, take_at, drop_at}
 use Rattle.std.proofs.lemmas.List.Concat.{flat_map-cons}
@@ -18,13 +19,15 @@ use Rattle.bk_image.specs.declared.fault.ImageField.{ImageField}
 use Rattle.bk_image.specs.Parts.{Rest, Reads, Check, ◌>>=◌, first_failing, part, checked, each_of, is_outside}
 use Rattle.bk_image.specs.Numbers.{byte, word, words_of, path_in}
 use Rattle.bk_image.specs.Header.{byte_at, word_at}
-use Rattle.bk_image.specs.Subjects.{level_of, level_checks, level_at, schedule_checks, schedule_at, window_of, window_checks, window_at, mode_of, subject_of, subject_fails, subject_at}
+use Rattle.bk_image.specs.Subjects.{level_of, level_checks, level_at, schedule_checks, schedule_at, window_of, window_checks, window_at, mode_of, subject_of}
+use Rattle.bk_image.specs.Subjects.{subject_fails, subject_at}
 use Rattle.bk_image.specs.Objects.{Objects}
 use Rattle.bk_image.specs.Holds.{hold_of, hold_checks, hold_at}
 use Rattle.bk_image.specs.Spelling.{word_bytes, words_bytes, path_bytes, level_bytes, mode_number, window_bytes, subject_record, subject_bytes, hold_bytes}
 use Rattle.bk_image.specs.Writing.{LevelFits, WindowFits, SubjectFits, HoldFits}
-use Rattle.bk_image.proofs.Takes.{bind_ok, ok_is, part_ok, bytes_from, by_places}
-use Rattle.bk_image.proofs.Grown.{from}
+use Rattle.bk_base.proofs.FaultLemmas.{bind_ok, ok_is}
+use Rattle.bk_image.proofs.Takes.{part_ok, bytes_from, by_places}
+use Rattle.bk_base.specs.Parts.{from}
 
 -- p reads nothing but x, with those bytes left
 pub record Only {X : Type 0} (x : X) (more : List ℕ) (p : Reads X) : Type 0 where

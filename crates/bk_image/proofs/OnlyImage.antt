@@ -4,6 +4,9 @@ use Rattle.std.specs.Prelude.{not, flat_map, All}
 use Rattle.std.proofs.lemmas.List.{length-append}
 use Rattle.std.proofs.lemmas.List.Elements.{All-nil, All-cons}
 use Rattle.bk_state.specs.declared.image.Image.{Image}
+use Rattle.bk_object.specs.Rows.{most_subjects}
+use Rattle.bk_level.specs.Levels.{most_levels}
+use Rattle.bk_image.specs.Limits.{most_turns, most_lines, most_places, most_objects, most_holds}
 use Rattle.bk_image.specs.declared.fault.ImageField.TheVariants as field
 use Rattle.bk_image.specs.Parts.{Reads, each_of}
 use Rattle.bk_image.specs.Header.{is_magic, magic_at, byte_at, word_at, header_at}
@@ -13,10 +16,12 @@ use Rattle.bk_image.specs.Holds.{hold_at}
 use Rattle.bk_image.specs.Image.{image_at, image_of}
 use Rattle.bk_image.specs.Spelling.{word_bytes, header_bytes, header_of, level_bytes, subject_bytes, object_bytes, hold_bytes, spelling}
 use Rattle.bk_image.specs.Writing.{LevelFits, SubjectFits, HoldFits}
-use Rattle.bk_image.proofs.Takes.{bind_ok, ok_is}
+use Rattle.bk_base.proofs.FaultLemmas.{bind_ok, ok_is}
 use Rattle.bk_image.proofs.SpeltImage.{flat_map-single}
-use Rattle.bk_image.proofs.Grown.{from, image_at_stays}
-use Rattle.bk_image.proofs.Only.{Only, only_then, only_checked, only_done, checked_only, Any, Rereads, all_only, byte_only, word_only, level_only, schedule_only, subject_only, hold_only}
+use Rattle.bk_base.specs.Parts.{from}
+use Rattle.bk_image.proofs.Fronts.{image_framed}
+use Rattle.bk_image.proofs.Only.{Only, only_then, only_checked, only_done, checked_only, Any, Rereads, all_only, byte_only, word_only, level_only}
+use Rattle.bk_image.proofs.Only.{schedule_only, subject_only, hold_only}
 use Rattle.bk_image.proofs.OnlyObjects.{ObjectIsSpelt, object_only}
 use Rattle.bk_image.proofs.Steps as step
 
@@ -37,13 +42,13 @@ header_only x fit at more =
     let m0 = word_bytes 1 ++ m1 in
     only_then tt m0 (magic_at (from at (66 ∷ 76 ∷ 80 ∷ 75 ∷ m0))) step.from_magic x more (magic_only at m0) (λ at.
     only_then 1 m1 (word_at field.Version 1 1 (from at m0)) step.from_version x more (word_only field.Version 1 1 1 tt at m1) (λ at.
-    only_then x.turns m2 (word_at field.Turns 1 4096 (from at m1)) step.from_turns x more (word_only field.Turns 1 4096 x.turns tt at m2) (λ at.
-    only_then x.levels m3 (byte_at field.Counts 1 64 (from at m2)) (step.from_levels x.turns) x more (byte_only field.Counts 1 64 x.levels tt at m3) (λ at.
-    only_then x.subjects m4 (byte_at field.Counts 1 32 (from at m3)) (step.from_subjects x.turns x.levels) x more (byte_only field.Counts 1 32 x.subjects tt at m4) (λ at.
-    only_then x.lines m5 (byte_at field.Counts 0 16 (from at m4)) (step.from_lines x.turns x.levels x.subjects) x more (byte_only field.Counts 0 16 x.lines tt at m5) (λ at.
-    only_then x.schedule m6 (byte_at field.Counts 1 64 (from at m5)) (step.from_schedule x.turns x.levels x.subjects x.lines) x more (byte_only field.Counts 1 64 x.schedule tt at m6) (λ at.
-    only_then x.objects m7 (word_at field.Counts 1 3904 (from at m6)) (step.from_objects x.turns x.levels x.subjects x.lines x.schedule) x more (word_only field.Counts 1 3904 x.objects tt at m7) (λ at.
-    only_then x.holds more (word_at field.Counts 0 65535 (from at m7)) (step.from_holds x.turns x.levels x.subjects x.lines x.schedule x.objects) x more (word_only field.Counts 0 65535 x.holds tt at more) (λ at.
+    only_then x.turns m2 (word_at field.Turns 1 most_turns (from at m1)) step.from_turns x more (word_only field.Turns 1 most_turns x.turns tt at m2) (λ at.
+    only_then x.levels m3 (byte_at field.Counts 1 most_levels (from at m2)) (step.from_levels x.turns) x more (byte_only field.Counts 1 most_levels x.levels tt at m3) (λ at.
+    only_then x.subjects m4 (byte_at field.Counts 1 most_subjects (from at m3)) (step.from_subjects x.turns x.levels) x more (byte_only field.Counts 1 most_subjects x.subjects tt at m4) (λ at.
+    only_then x.lines m5 (byte_at field.Counts 0 most_lines (from at m4)) (step.from_lines x.turns x.levels x.subjects) x more (byte_only field.Counts 0 most_lines x.lines tt at m5) (λ at.
+    only_then x.schedule m6 (byte_at field.Counts 1 most_places (from at m5)) (step.from_schedule x.turns x.levels x.subjects x.lines) x more (byte_only field.Counts 1 most_places x.schedule tt at m6) (λ at.
+    only_then x.objects m7 (word_at field.Counts 1 most_objects (from at m6)) (step.from_objects x.turns x.levels x.subjects x.lines x.schedule) x more (word_only field.Counts 1 most_objects x.objects tt at m7) (λ at.
+    only_then x.holds more (word_at field.Counts 0 most_holds (from at m7)) (step.from_holds x.turns x.levels x.subjects x.lines x.schedule x.objects) x more (word_only field.Counts 0 most_holds x.holds tt at more) (λ at.
     only_done x x at more (λ i. x))))))))))
 
 -- what is asked of an image's parts for their spelling to be read as themselves
@@ -96,7 +101,7 @@ spelling_only v is more x e =
     let bytes = spelling v ++ more in
     let a = bind_ok (image_at (from 0 bytes)) (λ i. Ok (i.0, i.1.at)) x e in
     let o = (image_only_at v is 0 more).is a.0 (ap (λ (t : List ℕ). image_at (from 0 t)) (sym (spelling_parts v more)) ∙ a.1) in
-    let f = image_at_stays 0 bytes a.0 a.1 in
+    let f = image_framed bytes a.0 a.1 in
     let left = length-append f.front a.0.1.bytes in
     let right = length-append (spelling v) more in
     let whole : length bytes ≡ length (f.front ++ a.0.1.bytes) = ap length f.parts in

@@ -17,7 +17,7 @@ use Rattle.bk_image.specs.Numbers.{word, words_of}
 use Rattle.bk_image.specs.Objects.{kind_of, blocks_of, object_of, object_fails, words_checks, object_at}
 use Rattle.bk_image.specs.Spelling.{words_bytes, path_bytes, blocks_byte, kind_bytes, row_bytes, object_record, object_bytes}
 use Rattle.bk_image.specs.Writing.{RowFits, blocks_fit}
-use Rattle.bk_image.proofs.Grown.{from}
+use Rattle.bk_base.specs.Parts.{from}
 use Rattle.bk_image.proofs.Only.{Only, only_then, only_checked, only_done, part_only, checked_only, Rereads, word_back, words_again, words_count, path_again}
 
 kind_again : (kind : Kind) (blocks : ℕ) → blocks_fit kind blocks ≡ true →

@@ -8,8 +8,12 @@ use Rattle.bk_state.specs.declared.image.Image.{Image}
 use Rattle.bk_state.specs.declared.image.Hold.{Hold}
 use Rattle.bk_state.specs.declared.image.ObjectRec.{ObjectRec}
 use Rattle.bk_state.specs.declared.image.SubjectRec.{SubjectRec}
+use Rattle.bk_object.specs.Rows.{most_subjects}
+use Rattle.bk_level.specs.Levels.{most_levels}
+use Rattle.bk_image.specs.Limits.{most_turns, most_lines, most_places, most_objects, most_holds}
 use Rattle.bk_image.specs.declared.fault.ImageField.TheVariants as field
-use Rattle.bk_image.specs.declared.fault.ImageStop.{ImageStop}
+use Rattle.bk_base.specs.declared.stop.Stop.{Stop}
+use Rattle.bk_image.specs.declared.fault.ImageFault.{ImageFault}
 use Rattle.bk_image.specs.Parts.{Rest, Gives, Passes, each_of}
 use Rattle.bk_image.specs.Header.{Header, magic_at, byte_at, word_at, header_at}
 use Rattle.bk_image.specs.Subjects.{level_checks, level_at, schedule_checks, schedule_at, subject_at}
@@ -17,10 +21,11 @@ use Rattle.bk_image.specs.Objects.{objects_in, object_at, after_objects}
 use Rattle.bk_image.specs.Holds.{hold_checks, hold_at}
 use Rattle.bk_image.specs.Image.{image_at, image_of}
 use Rattle.bk_image.specs.Accepted.{IsAccepted}
-use Rattle.bk_image.proofs.Takes.{bind_ok, ok_is}
+use Rattle.bk_base.proofs.FaultLemmas.{bind_ok, ok_is}
 use Rattle.bk_image.proofs.Steps as step
 use Rattle.bk_image.proofs.PassedParts.{byte_within, word_within, each_read}
-use Rattle.bk_image.proofs.PassedKinds.{level_passed, schedule_passed, SubjectPassed, subject_passed, ObjectPassed, object_passed, hold_passed, AfterPassed, after_passed}
+use Rattle.bk_image.proofs.PassedKinds.{level_passed, schedule_passed, SubjectPassed, subject_passed, ObjectPassed, object_passed, hold_passed, AfterPassed}
+use Rattle.bk_image.proofs.PassedKinds.{after_passed}
 use Rattle.bk_image.proofs.Secure.{accepted_secure}
 
 -- ---- the header
@@ -40,22 +45,22 @@ unfolding header_at
 header_counted rest x e =
     let m = bind_ok (magic_at rest) step.from_magic x e in
     let v = bind_ok (word_at field.Version 1 1 m.0.1) step.from_version x m.2 in
-    let t = bind_ok (word_at field.Turns 1 4096 v.0.1) step.from_turns x v.2 in
-    let l = bind_ok (byte_at field.Counts 1 64 t.0.1) (step.from_levels t.0.0) x t.2 in
-    let s = bind_ok (byte_at field.Counts 1 32 l.0.1) (step.from_subjects t.0.0 l.0.0) x l.2 in
-    let n = bind_ok (byte_at field.Counts 0 16 s.0.1) (step.from_lines t.0.0 l.0.0 s.0.0) x s.2 in
-    let c = bind_ok (byte_at field.Counts 1 64 n.0.1) (step.from_schedule t.0.0 l.0.0 s.0.0 n.0.0) x n.2 in
-    let o = bind_ok (word_at field.Counts 1 3904 c.0.1) (step.from_objects t.0.0 l.0.0 s.0.0 n.0.0 c.0.0) x c.2 in
-    let h = bind_ok (word_at field.Counts 0 65535 o.0.1) (step.from_holds t.0.0 l.0.0 s.0.0 n.0.0 c.0.0 o.0.0) x o.2 in
+    let t = bind_ok (word_at field.Turns 1 most_turns v.0.1) step.from_turns x v.2 in
+    let l = bind_ok (byte_at field.Counts 1 most_levels t.0.1) (step.from_levels t.0.0) x t.2 in
+    let s = bind_ok (byte_at field.Counts 1 most_subjects l.0.1) (step.from_subjects t.0.0 l.0.0) x l.2 in
+    let n = bind_ok (byte_at field.Counts 0 most_lines s.0.1) (step.from_lines t.0.0 l.0.0 s.0.0) x s.2 in
+    let c = bind_ok (byte_at field.Counts 1 most_places n.0.1) (step.from_schedule t.0.0 l.0.0 s.0.0 n.0.0) x n.2 in
+    let o = bind_ok (word_at field.Counts 1 most_objects c.0.1) (step.from_objects t.0.0 l.0.0 s.0.0 n.0.0 c.0.0) x c.2 in
+    let h = bind_ok (word_at field.Counts 0 most_holds o.0.1) (step.from_holds t.0.0 l.0.0 s.0.0 n.0.0 c.0.0 o.0.0) x o.2 in
     let q = ok_is (step.counted t.0.0 l.0.0 s.0.0 n.0.0 c.0.0 o.0.0 h.0.0, h.0.1) x h.2 in
     subst (λ (y : Header × Rest). HeaderCounted y.0) q (record {
-      turns = word_within field.Turns 1 4096 v.0.1 t.0 t.1;
-      levels = byte_within field.Counts 1 64 t.0.1 l.0 l.1;
-      subjects = byte_within field.Counts 1 32 l.0.1 s.0 s.1;
-      lines = byte_within field.Counts 0 16 s.0.1 n.0 n.1;
-      schedule = byte_within field.Counts 1 64 n.0.1 c.0 c.1;
-      objects = word_within field.Counts 1 3904 c.0.1 o.0 o.1;
-      holds = word_within field.Counts 0 65535 o.0.1 h.0 h.1;
+      turns = word_within field.Turns 1 most_turns v.0.1 t.0 t.1;
+      levels = byte_within field.Counts 1 most_levels t.0.1 l.0 l.1;
+      subjects = byte_within field.Counts 1 most_subjects l.0.1 s.0 s.1;
+      lines = byte_within field.Counts 0 most_lines s.0.1 n.0 n.1;
+      schedule = byte_within field.Counts 1 most_places n.0.1 c.0 c.1;
+      objects = word_within field.Counts 1 most_objects c.0.1 o.0 o.1;
+      holds = word_within field.Counts 0 most_holds o.0.1 h.0 h.1;
     })
 
 -- ---- the image
@@ -92,6 +97,10 @@ accepted_parts h levels schedule subjects objects holds p =
         some_objects = subst (λ n. 1 ≤ n) (sym p.objects_read.0) p.header.objects.0;
         objects = subst (λ n. n ≤ 3904) (sym p.objects_read.0) p.header.objects.1;
         holds = subst (λ n. n ≤ 65535) (sym p.holds_read.0) p.header.holds.1;
+      };
+      places = record {
+        rows = λ front o tail whole. (p.objects_read.1 front o tail whole).row;
+        subjects = λ front subject tail whole. (p.subjects_read.1 front subject tail whole).places;
       };
       levels = p.levels_read.1;
       schedule = λ front subject tail whole. subst (λ n. Passes (schedule_checks n subject)) (sym count) (p.schedule_read.1 front subject tail whole);
@@ -137,10 +146,10 @@ pub image_secure : (bytes : List ℕ) (image : Image) (n : ℕ) → image_of byt
 image_secure bytes image n e = accepted_secure image (image_accepted bytes image n e)
 
 -- the same of what a function returned
-pub is_accepted : {Y : Type 0} (bytes : List ℕ) (view : Y → Image × ℕ) (r : Result Y ImageStop) → Gives view r (image_of bytes) → IfOk r (λ x. IsAccepted (view x).0)
+pub is_accepted : {Y : Type 0} (bytes : List ℕ) (view : Y → Image × ℕ) (r : Result Y (Stop ImageFault)) → Gives view r (image_of bytes) → IfOk r (λ x. IsAccepted (view x).0)
 is_accepted bytes view (Ok x) given = image_accepted bytes (view x).0 (view x).1 given
 is_accepted bytes view (Err e) given = tt
 
-pub is_secure : {Y : Type 0} (bytes : List ℕ) (view : Y → Image × ℕ) (r : Result Y ImageStop) → Gives view r (image_of bytes) → IfOk r (λ x. Secure (state_of (view x).0))
+pub is_secure : {Y : Type 0} (bytes : List ℕ) (view : Y → Image × ℕ) (r : Result Y (Stop ImageFault)) → Gives view r (image_of bytes) → IfOk r (λ x. Secure (state_of (view x).0))
 is_secure bytes view (Ok x) given = image_secure bytes (view x).0 (view x).1 given
 is_secure bytes view (Err e) given = tt

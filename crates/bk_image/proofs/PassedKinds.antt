@@ -1,20 +1,27 @@
 -- Of one part of each kind that was read, its checks passed; and those after all objects.
-use Rattle.std.proofs.Common.{◌≡◌, ℕ, ◌+◌, ◌*◌, true, false, not, ◌==◌, List, [], ◌∷◌, ◌++◌, length, Ok, refl, sym, subst}
+use Rattle.std.proofs.Common.{◌≡◌, ℕ, ◌+◌, ◌*◌, true, false, not, ◌==◌, List, [], ◌∷◌, ◌++◌, length, take, drop, Ok, refl, sym, subst, arith, length-take}
+use Rattle.std.proofs.Common.{length-drop}
 use Rattle.std.specs.Prelude.{nat_lt, is_none}
 use Rattle.bk_level.specs.Levels.{Level}
+use Rattle.bk_object.specs.Pairs.{split_pairs}
+use Rattle.bk_object.specs.Rows.{most_subjects}
+use Rattle.bk_process.specs.NewProcess.{windows_of_process, entries_of_process, general_registers}
 use Rattle.bk_state.specs.declared.image.Hold.{Hold}
 use Rattle.bk_state.specs.declared.image.ObjectRec.{ObjectRec}
 use Rattle.bk_state.specs.declared.image.SubjectRec.{SubjectRec}
 use Rattle.bk_state.specs.declared.image.WindowRec.{WindowRec}
 use Rattle.bk_image.specs.declared.fault.ImageField.TheVariants as field
-use Rattle.bk_image.specs.Parts.{Rest, Passes, ◌>>=◌, first_failing, part, checked, each_of}
+use Rattle.bk_image.specs.Parts.{fault_at, Rest, Passes, ◌>>=◌, first_failing, part, checked, each_of}
 use Rattle.bk_image.specs.Numbers.{byte, word, words_of, path_in}
-use Rattle.bk_image.specs.Subjects.{level_of, level_checks, level_at, schedule_checks, schedule_at, window_of, window_checks, window_at, subject_of, subject_checks, subject_fails, subject_at}
-use Rattle.bk_image.specs.Objects.{Objects, objects_in, object_of, object_checks, object_fails, room, words_checks, object_at, size, is_over, quotas_at, lacks_lines, after_objects}
+use Rattle.bk_image.specs.Subjects.{level_of, level_checks, level_at, schedule_checks, schedule_at, window_of, window_checks, window_at, subject_of}
+use Rattle.bk_image.specs.Subjects.{subject_checks, subject_fails, subject_at}
+use Rattle.bk_image.specs.Objects.{Objects, objects_in, object_of, object_checks, object_fails, room, words_checks, object_at, size, is_over, quotas_at}
+use Rattle.bk_image.specs.Objects.{lacks_lines, after_objects}
 use Rattle.bk_image.specs.Holds.{hold_of, hold_checks, hold_at}
 use Rattle.bk_image.specs.Accepted.{EachPasses, told_of}
-use Rattle.bk_image.proofs.Takes.{bind_ok, ok_is, all_pass}
-use Rattle.bk_image.proofs.PassedParts.{checked_passed, part_length, words_length, each_read}
+use Rattle.bk_base.proofs.FaultLemmas.{bind_ok, ok_is, all_pass}
+use Rattle.bk_image.proofs.PassedParts.{checked_passed, part_length, checked_length, words_length, each_read}
+use Rattle.bk_image.proofs.Pairs.{length-split_pairs}
 
 -- ---- one part of each kind
 
@@ -39,6 +46,18 @@ window_passed before rest x e =
 pub record SubjectPassed (levels : List Level) (subject : SubjectRec) : Type 0 where
   pub passed : Passes (subject_checks levels true (length subject.windows) subject)
   pub windows : EachPasses (λ before window. window_checks before true window) subject.windows
+  pub places : (length subject.regs ≡ general_registers) × (length subject.entries ≡ entries_of_process)
+
+-- the registers and the fault entries of 39 bytes
+subject_places : (b : List ℕ) → length b ≡ 39 → (length (words_of (take 12 (drop 4 b))) ≡ general_registers) × (length (words_of (take 16 (drop 22 b))) ≡ entries_of_process)
+subject_places b count = (
+  words_length 6 (take 12 (drop 4 b)) (omega (arith, count, length-take 12 (drop 4 b), length-drop 4 b)),
+  words_length 8 (take 16 (drop 22 b)) (omega (arith, count, length-take 16 (drop 22 b), length-drop 22 b)),
+)
+
+-- the row of 28 bytes
+row_places : (b : List ℕ) → length b ≡ 28 → length (split_pairs (take 16 (drop 10 b))) ≡ most_subjects
+row_places b count = omega (arith, count, length-split_pairs (take 16 (drop 10 b)), length-take 16 (drop 10 b), length-drop 10 b)
 
 pub subject_passed : (levels : List Level) (before : List SubjectRec) (rest : Rest) (x : SubjectRec × Rest) → subject_at levels before rest ≡ Ok x → SubjectPassed levels x.0
 unfolding subject_at
@@ -50,13 +69,15 @@ subject_passed levels before rest x e =
     let p : Passes (subject_fails levels a.0.0) = subst (λ (b : List ℕ). Passes (subject_fails levels b)) is passed in
     let (count, windows) = each_read (λ front window. Passes (window_checks front true window)) window_at window_passed (byte a.0.0 38) a.0.1 w.0 w.1 in
     subst (λ (y : SubjectRec × Rest). SubjectPassed levels y.0) q (record {
-      passed = (p.0, (p.1.0, (p.1.1.0, (refl, (p.1.1.1.1.0, (subst (λ n. nat_lt 32 n ≡ false) (sym count) p.1.1.1.1.1.0, tt))))));
+      passed = (p.0, (p.1.0, (p.1.1.0, (refl, (p.1.1.1.1.0, (subst (λ n. nat_lt windows_of_process n ≡ false) (sym count) p.1.1.1.1.1.0, tt))))));
       windows = windows;
+      places = subject_places a.0.0 (checked_length 39 (subject_fails levels) rest a.0 a.1);
     })
 
 pub record ObjectPassed (levels : List Level) (subjects lines : ℕ) (before : List ObjectRec) (o : ObjectRec) : Type 0 where
   pub passed : Passes (object_checks levels subjects lines before (told_of o) o)
   pub words : Passes (words_checks o.words)
+  pub row : length o.facts.row ≡ most_subjects
 
 pub object_passed : (levels : List Level) (subjects lines : ℕ) (before : List ObjectRec) (rest : Rest) (x : ObjectRec × Rest) → object_at levels subjects lines before rest ≡ Ok x → ObjectPassed levels subjects lines before x.0
 unfolding object_at
@@ -106,7 +127,8 @@ object_passed levels subjects lines before rest x e =
           ),
         ),
       );
-      words = all_pass rest.at (words_checks (words_of d.0.0)) f.0 f.1;
+      words = all_pass (fault_at rest.at) (words_checks (words_of d.0.0)) f.0 f.1;
+      row = row_places a.0.0 (checked_length 28 (object_fails levels subjects lines before) rest a.0 a.1);
     })
 
 pub hold_passed : (levels : List Level) (subjects : List SubjectRec) (objects : Objects) (before : List Hold) (rest : Rest) (x : Hold × Rest) → hold_at levels subjects objects before rest ≡ Ok x → Passes (hold_checks levels subjects objects before true x.0)
@@ -121,7 +143,7 @@ quota_passed : (all : Objects) (front : List ObjectRec) (o : ObjectRec) (tail : 
 unfolding quotas_at
 quota_passed all [] o tail at u e =
     let a = bind_ok (first_failing at ((field.Quota, is_over all o) ∷ [])) (λ passed. quotas_at all tail (at + size o)) u e in
-    all_pass at ((field.Quota, is_over all o) ∷ []) a.0 a.1
+    all_pass (fault_at at) ((field.Quota, is_over all o) ∷ []) a.0 a.1
 quota_passed all (z ∷ front) o tail at u e =
     let a = bind_ok (first_failing at ((field.Quota, is_over all z) ∷ [])) (λ passed. quotas_at all (front ++ o ∷ tail) (at + size z)) u e in
     quota_passed all front o tail (at + size z) u a.2
@@ -136,5 +158,5 @@ after_passed lines objects start u e =
     let a = bind_ok (quotas_at (objects_in objects) objects start) (λ quotas. first_failing 10 ((field.Lines, lacks_lines lines objects) ∷ [])) u e in
     record {
       quotas = λ front o tail whole. quota_passed (objects_in objects) front o tail start a.0 (subst (λ os. quotas_at (objects_in objects) os start ≡ Ok a.0) (sym whole) a.1);
-      lines_there = (all_pass 10 ((field.Lines, lacks_lines lines objects) ∷ []) u a.2).0;
+      lines_there = (all_pass (fault_at 10) ((field.Lines, lacks_lines lines objects) ∷ []) u a.2).0;
     }

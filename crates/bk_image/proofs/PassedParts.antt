@@ -2,11 +2,12 @@
 use Rattle.std.proofs.Common.{◌≡◌, ℕ, zero, suc, ◌*◌, ◌≤◌, List, [], ◌∷◌, ◌++◌, length, take, Ok, refl, sym, ap, subst, ◌∙◌, append_assoc, arith, length-take}
 use Rattle.std.proofs.lemmas.List.{append-nil}
 use Rattle.bk_image.specs.declared.fault.ImageField.{ImageField}
-use Rattle.bk_image.specs.Parts.{Rest, Reads, Check, Passes, ◌>>=◌, first_failing, part, checked, each_of, is_outside}
+use Rattle.bk_image.specs.Parts.{fault_at, Rest, Reads, Check, Passes, ◌>>=◌, first_failing, part, checked, each_of, is_outside}
 use Rattle.bk_image.specs.Numbers.{byte, word, words_of}
 use Rattle.bk_image.specs.Header.{byte_at, word_at}
 use Rattle.bk_image.proofs.SecureLists.{within}
-use Rattle.bk_image.proofs.Takes.{bind_ok, ok_is, all_pass, part_ok}
+use Rattle.bk_base.proofs.FaultLemmas.{bind_ok, ok_is, all_pass}
+use Rattle.bk_image.proofs.Takes.{part_ok}
 
 -- the checks of a part that was read passed, of the bytes that give its value
 pub checked_passed : {X : Type 0} (n : ℕ) (checks : List ℕ → List Check) (value : List ℕ → X) (rest : Rest) (x : X × Rest) → checked n checks value rest ≡ Ok x → (b : List ℕ) × Passes (checks b) × (value b ≡ x.0)
@@ -14,7 +15,7 @@ checked_passed n checks value rest x e =
     let a = bind_ok (part n rest) (λ p. first_failing rest.at (checks p.0) >>= λ passed. Ok (value p.0, p.1)) x e in
     let b = bind_ok (first_failing rest.at (checks a.0.0)) (λ passed. Ok (value a.0.0, a.0.1)) x a.2 in
     let q = ok_is (value a.0.0, a.0.1) x b.2 in
-    (a.0.0, all_pass rest.at (checks a.0.0) b.0 b.1, λ i. (q i).0)
+    (a.0.0, all_pass (fault_at rest.at) (checks a.0.0) b.0 b.1, λ i. (q i).0)
 
 -- a part has as many bytes as were asked for
 pub part_length : (n : ℕ) (rest : Rest) (x : List ℕ × Rest) → part n rest ≡ Ok x → length x.0 ≡ n
@@ -22,6 +23,13 @@ part_length n rest x e =
     let (_, long, is) = part_ok n rest x e in
     let count : length (take n rest.bytes) ≡ n = omega (arith, long, length-take n rest.bytes) in
     ap (λ (y : List ℕ × Rest). length y.0) (sym is) ∙ count
+
+-- and so have the bytes of one that passed its checks
+pub checked_length : (n : ℕ) (checks : List ℕ → List Check) (rest : Rest) (x : List ℕ × Rest) → checked n checks (λ b. b) rest ≡ Ok x → length x.0 ≡ n
+checked_length n checks rest x e =
+    let a = bind_ok (part n rest) (λ p. first_failing rest.at (checks p.0) >>= λ passed. Ok (p.0, p.1)) x e in
+    let b = bind_ok (first_failing rest.at (checks a.0.0)) (λ passed. Ok (a.0.0, a.0.1)) x a.2 in
+    subst (λ (y : List ℕ × Rest). length y.0 ≡ n) (ok_is (a.0.0, a.0.1) x b.2) (part_length n rest a.0 a.1)
 
 pub words_length : (count : ℕ) (b : List ℕ) → length b ≡ 2 * count → length (words_of b) ≡ count
 words_length zero [] is = refl

@@ -8,11 +8,14 @@ use Rattle.bk_image.proofs.SecureKinds.{kinds_secure, lines_secure}
 use Rattle.bk_image.proofs.SecureCells.{limits_secure, no_limits_secure, quotas_secure}
 use Rattle.bk_image.proofs.SecureRows.{rows_secure}
 use Rattle.bk_image.proofs.SecureAccess.{access_secure, naming_secure}
+use Rattle.bk_image.proofs.SecureShape.{shape_secure, distinct_secure}
 use Rattle.bk_image.proofs.SecureSubjects.{processes_secure, clearances_secure, entries_secure}
 
 pub accepted_secure : (image : Image) → IsAccepted image → Secure (state_of image)
 accepted_secure image accepted = record {
   processes = processes_secure image;
+  shape = shape_secure image accepted;
+  distinct = distinct_secure image accepted;
   root = root_secure image accepted;
   parents = parents_secure image accepted;
   clearances = clearances_secure image accepted;

@@ -1,28 +1,28 @@
 -- The current access set of the state of an accepted image: what is held is granted, and the levels allow it.
-use Rattle.std.proofs.Common.{◌≡◌, ℕ, Bool, true, false, not, ◌&&◌, ◌||◌, [], ◌∷◌, refl, sym, ap, subst, ◌∙◌}
+use Rattle.std.proofs.Common.{◌≡◌, ℕ, Bool, true, false, not, ◌&&◌, ◌||◌, [], ◌∷◌, sym, ap, subst, ◌∙◌}
 use Rattle.std.specs.Prelude.{flat_map}
 use Rattle.std.specs.Ordering.{eq_by_cmp}
 use Rattle.std.specs.List.{list_any}
 use Rattle.std.specs.FinSet as set
-use Rattle.bk_level.proofs.LevelOrder.{and_both}
-use Rattle.bk_level.specs.Levels.{Level, dominates, is_same_level, level_at}
+use Rattle.std.proofs.lemmas.Bool.{and_from}
+use Rattle.bk_level.specs.Levels.{Level, dominates, level_at}
 use Rattle.bk_object.specs.Modes.{Mode, Read, Execute, Write, Append, has, is_within}
 use Rattle.bk_object.specs.Rows.{in_row}
 use Rattle.bk_object.specs.declared.modes.Modes.{Modes}
 use Rattle.bk_path.specs.Paths.{Path, is_root}
 use Rattle.bk_quota.specs.Charges.{passes}
 use Rattle.bk_state.specs.State.{Triple, triple_cmp, holds, facts_at as facts_in_state, current_level, level_of}
-use Rattle.bk_state.specs.Secure.{allows, is_allowed}
+use Rattle.bk_state.specs.Allowed.{allows, is_allowed, is_simple, is_star}
 use Rattle.bk_state.specs.Start.{state_of, triples_from}
 use Rattle.bk_state.specs.declared.image.Hold.{Hold}
 use Rattle.bk_state.specs.declared.image.Image.{Image}
 use Rattle.bk_state.proofs.Orders.{triple_total}
 use Rattle.bk_state.proofs.Triples.{same_triple}
 use Rattle.bk_image.specs.Objects.{objects_in, facts_at}
-use Rattle.bk_image.specs.Holds.{greatest_in, current_in, fits_ss, fits_star, dominates_parent}
+use Rattle.bk_image.specs.Holds.{greatest_in, current_in, each_mode, fits_ss, fits_star, dominates_parent}
 use Rattle.bk_image.specs.Accepted.{IsAccepted}
-use Rattle.bk_image.proofs.SecureLists.{Stands, implied, not_false, all_three, passes_some, any_joined, any_kept}
-use Rattle.bk_image.proofs.SecureRows.{within_has}
+use Rattle.bk_image.proofs.SecureLists.{Stands, implied, not_false, passes_some, any_joined, any_kept}
+use Rattle.bk_image.proofs.SecureRows.{four, within_has}
 
 -- the hold by which a subject holds the object by the mode
 pub record Held (image : Image) (s : ℕ) (path : Path) (mode : Mode) : Type 0 where
@@ -42,39 +42,26 @@ held image s path mode h =
     let (subject, path_is, mode_is) = same_triple (s, path, mode) (hold.subject, hold.path, by_mode) ties in
     record { hold = hold; stands = stands; subject = subject; path_is = path_is; has_mode = subst (λ m. has hold.modes m ≡ true) (sym mode_is) has_it }
 
--- what is read, executed or written, its level is under the greatest
-ss_any : (r e w d : Bool) → (not (r || e || w) || d) ≡ true → (r || e || w) ≡ true → d ≡ true
-ss_any r e w d h any = implied (r || e || w) d h any
+-- a mode of a set of which each passes
+each_at : (test : Mode → Bool) (modes : Modes) (mode : Mode) → each_mode test modes ≡ true → has modes mode ≡ true → test mode ≡ true
+each_at test modes mode each h = implied (has modes mode) (test mode) (by mode) h
+  where
+    asks : Mode → Bool
+    asks mode = not (has modes mode) || test mode
 
-or_first : (a b : Bool) → a ≡ true → (a || b) ≡ true
-or_first a b h = ap (λ x. x || b) h
+    all : (asks Read ≡ true) × (asks Execute ≡ true) × (asks Write ≡ true) × (asks Append ≡ true)
+    all = four (asks Read) (asks Execute) (asks Write) (asks Append) each
 
-or_second : (a b : Bool) → b ≡ true → (a || b) ≡ true
-or_second true b h = refl
-or_second false b h = h
+    by : (m : Mode) → asks m ≡ true
+    by Read = all.0
+    by Execute = all.1
+    by Write = all.2
+    by Append = all.3
 
 -- the two tests of a hold are those of each of its modes
 allowed : (mode : Mode) (modes : Modes) (greatest current object : Level) → has modes mode ≡ true → fits_ss modes greatest object ≡ true → fits_star modes current object ≡ true → allows mode greatest current object ≡ true
-allowed mode modes greatest current object h ss star = by mode h (all_three (not (r || e) || dominates current object) (not w || is_same_level object current) (not a || dominates object current) star)
-  where
-    r : Bool
-    r = has modes Read
-
-    e : Bool
-    e = has modes Execute
-
-    w : Bool
-    w = has modes Write
-
-    a : Bool
-    a = has modes Append
-
-    by : (m : Mode) → has modes m ≡ true →
-        ((not (r || e) || dominates current object) ≡ true) × ((not w || is_same_level object current) ≡ true) × ((not a || dominates object current) ≡ true) → allows m greatest current object ≡ true
-    by Read is stars = and_both _ _ (ss_any r e w (dominates greatest object) ss (or_first (r || e) w (or_first r e is))) (implied (r || e) (dominates current object) stars.0 (or_first r e is))
-    by Execute is stars = and_both _ _ (ss_any r e w (dominates greatest object) ss (or_first (r || e) w (or_second r e is))) (implied (r || e) (dominates current object) stars.0 (or_second r e is))
-    by Write is stars = and_both _ _ (ss_any r e w (dominates greatest object) ss (or_second (r || e) w is)) (implied w (is_same_level object current) stars.1 is)
-    by Append is stars = implied a (dominates object current) stars.2 is
+allowed mode modes greatest current object h ss star =
+    and_from _ _ (each_at (λ m. is_simple m greatest object) modes mode ss h) (each_at (λ m. is_star m current object) modes mode star h)
 
 -- what a hold's checks say of each of its modes, at the hold's own subject and path
 hold_access : (image : Image) → IsAccepted image → (hold : Hold) → Stands image.holds hold → (mode : Mode) → has hold.modes mode ≡ true →
@@ -91,7 +78,7 @@ hold_access image accepted hold at mode h =
     let star : fits_star hold.modes current (level_at image.levels facts.level) ≡ true =
     ap (passes (λ f. fits_star hold.modes current (level_at image.levels f.level))) (sym there) ∙ not_false _ c.1.1.1.1.1.1.1.1.0 in
     ap (passes (λ f. has (in_row f.row hold.subject) mode && allows mode greatest current (level_at image.levels f.level))) there
-    ∙ and_both _ _ (within_has hold.modes (in_row facts.row hold.subject) mode row h) (allowed mode hold.modes greatest current (level_at image.levels facts.level) h ss star)
+    ∙ and_from _ _ (within_has hold.modes (in_row facts.row hold.subject) mode row h) (allowed mode hold.modes greatest current (level_at image.levels facts.level) h ss star)
 
 pub access_secure : (image : Image) → IsAccepted image → (s : ℕ) (path : Path) (mode : Mode) → holds (state_of image) s path mode ≡ true →
     passes (λ facts. has (in_row facts.row s) mode && is_allowed (state_of image) s facts mode) (facts_in_state (state_of image) path) ≡ true

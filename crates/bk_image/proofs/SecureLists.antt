@@ -1,30 +1,16 @@
 -- Lists, options and tests, as the proofs of what an accepted image is need them.
-use Rattle.std.proofs.Common.{◌≡◌, ℕ, zero, suc, Bool, true, false, cond, not, ◌&&◌, ◌||◌, List, [], ◌∷◌, ◌++◌, map, filter, Option, Some, None, find as first, get_or, refl, sym, ap, subst, ◌∙◌, ◌⊎◌, inl, inr, ◌<◌, ◌≤◌, ◌==◌, length, arith}
+use Rattle.std.proofs.Common.{◌≡◌, ℕ, zero, suc, Bool, true, false, cond, not, ◌&&◌, ◌||◌, List, [], ◌∷◌, ◌++◌, map, filter, Option, Some, None, find as first}
+use Rattle.std.proofs.Common.{get_or, refl, sym, ap, subst, ◌∙◌, ◌⊎◌, inl, inr, ◌<◌, ◌≤◌, ◌==◌, length, arith}
 use Rattle.std.proofs.lemmas.List.Folds.{list_any-append}
 use Rattle.std.specs.Prelude.{option_map, nat_lt, flat_map}
 use Rattle.std.specs.List.{list_any, list_all}
+use Rattle.std.proofs.lemmas.Bool.{or_cases, or_parts, or_right, and_from, and_parts}
 use Rattle.std.proofs.lemmas.Bool.Decides.{nat_tests}
-use Rattle.bk_level.proofs.LevelOrder.{and_first, and_second, and_both}
+pub use Rattle.std.proofs.lemmas.Bool.{not-false as not_false, not-true as not_true}
 use Rattle.bk_quota.specs.Charges.{passes}
 use Rattle.bk_image.specs.Parts.{is_outside}
 
 -- ---- tests
-
-pub or_cases : (a b : Bool) → (a || b) ≡ true → (a ≡ true) ⊎ (b ≡ true)
-or_cases true b either = inl refl
-or_cases false b either = inr either
-
-pub or_none : (a b : Bool) → (a || b) ≡ false → (a ≡ false) × (b ≡ false)
-or_none true b neither = cc
-or_none false b neither = (refl, neither)
-
-pub not_false : (a : Bool) → not a ≡ false → a ≡ true
-not_false true h = refl
-not_false false h = cc
-
-pub not_true : (a : Bool) → not a ≡ true → a ≡ false
-not_true true h = cc
-not_true false h = refl
 
 pub all_three : (a b c : Bool) → (a && b && c) ≡ true → (a ≡ true) × (b ≡ true) × (c ≡ true)
 all_three true true true h = (refl, refl, refl)
@@ -39,7 +25,7 @@ implied false b h asked = cc
 
 pub passes_both : {A : Type 0} (f g : A → Bool) (a : Option A) → passes f a ≡ true → passes g a ≡ true → passes (λ x. f x && g x) a ≡ true
 passes_both f g None one two = cc
-passes_both f g (Some x) one two = and_both (f x) (g x) one two
+passes_both f g (Some x) one two = and_from (f x) (g x) one two
 
 -- what passes a test is there
 pub passes_some : {A : Type 0} (f : A → Bool) (a : Option A) → passes f a ≡ true → (x : A) × (a ≡ Some x) × (f x ≡ true)
@@ -89,11 +75,7 @@ module _ {X : Type 0} where
 
   any_in : (test : X → Bool) (front : List X) (x : X) (tail : List X) → test x ≡ true → list_any test (front ++ x ∷ tail) ≡ true
   any_in test [] x tail is = ap (λ b. b || list_any test tail) is
-  any_in test (y ∷ front) x tail is = or_true (test y) _ (any_in test front x tail is)
-    where
-      or_true : (a b : Bool) → b ≡ true → (a || b) ≡ true
-      or_true true b h = refl
-      or_true false b h = h
+  any_in test (y ∷ front) x tail is = or_right (test y) _ (any_in test front x tail is)
 
   pub stands_any : (test : X → Bool) (xs : List X) (x : X) → Stands xs x → test x ≡ true → list_any test xs ≡ true
   stands_any test xs x at is = subst (λ zs. list_any test zs ≡ true) at.whole (any_in test at.front x at.tail is)
@@ -102,7 +84,7 @@ module _ {X : Type 0} where
   pub first_at : (test : X → Bool) (front : List X) (x : X) (tail : List X) → list_any test front ≡ false → test x ≡ true → first test (front ++ x ∷ tail) ≡ Some x
   first_at test [] x tail none is = ap (λ b. cond b (Some x) (first test tail)) is
   first_at test (y ∷ front) x tail none is =
-      let (here, rest) = or_none (test y) (list_any test front) none in
+      let (here, rest) = or_parts (test y) (list_any test front) none in
       ap (λ b. cond b (Some y) (first test (front ++ x ∷ tail))) here ∙ first_at test front x tail rest is
 
   -- two values of a list are the same one, or one stands before the other
@@ -127,18 +109,18 @@ module _ {X : Type 0} where
   all_each test xs x at all = inside at.front (subst (λ zs. list_all test zs ≡ true) (sym at.whole) all)
     where
       inside : (front : List X) → list_all test (front ++ x ∷ at.tail) ≡ true → test x ≡ true
-      inside [] h = and_first (test x) _ h
-      inside (y ∷ front) h = inside front (and_second (test y) _ h)
+      inside [] h = (and_parts (test x) _ h).0
+      inside (y ∷ front) h = inside front (and_parts (test y) _ h).1
 
   pub all_from : (test : X → Bool) (xs : List X) → ((x : X) → Stands xs x → test x ≡ true) → list_all test xs ≡ true
   all_from test [] each = refl
-  all_from test (x ∷ xs) each = and_both (test x) (list_all test xs) (each x (stands_first x xs)) (all_from test xs (λ y at. each y (stands_later x y xs at)))
+  all_from test (x ∷ xs) each = and_from (test x) (list_all test xs) (each x (stands_first x xs)) (all_from test xs (λ y at. each y (stands_later x y xs at)))
 
 -- what holds of all of a list holds of each place, and past the end the default is read
 pub all_at : {X : Type 0} (test : X → Bool) (xs : List X) (i : ℕ) (d : X) → test d ≡ true → list_all test xs ≡ true → test (get_or xs i d) ≡ true
 all_at test [] i d past all = past
-all_at test (x ∷ xs) zero d past all = and_first (test x) _ all
-all_at test (x ∷ xs) (suc i) d past all = all_at test xs i d past (and_second (test x) _ all)
+all_at test (x ∷ xs) zero d past all = (and_parts (test x) _ all).0
+all_at test (x ∷ xs) (suc i) d past all = all_at test xs i d past (and_parts (test x) _ all).1
 
 -- a place of a list that was mapped is that of a value of the list
 pub mapped_at : {X Y : Type 0} (f : X → Y) (xs : List X) (i : ℕ) (d : Y) → i < length xs → (x : X) × Stands xs x × (get_or (map f xs) i d ≡ f x)
@@ -148,7 +130,7 @@ mapped_at f (x ∷ xs) (suc i) d lt = let (y, at, is) = mapped_at f xs i d (omeg
 
 pub all_mapped : {X Y : Type 0} (test : Y → Bool) (f : X → Y) (xs : List X) → ((x : X) → Stands xs x → test (f x) ≡ true) → list_all test (map f xs) ≡ true
 all_mapped test f [] each = refl
-all_mapped test f (x ∷ xs) each = and_both (test (f x)) (list_all test (map f xs)) (each x (stands_first x xs)) (all_mapped test f xs (λ y at. each y (stands_later x y xs at)))
+all_mapped test f (x ∷ xs) each = and_from (test (f x)) (list_all test (map f xs)) (each x (stands_first x xs)) (all_mapped test f xs (λ y at. each y (stands_later x y xs at)))
 
 -- of which value of a list the list of a value has one that passes
 pub any_joined : {X Y : Type 0} (test : Y → Bool) (f : X → List Y) (xs : List X) → list_any test (flat_map f xs) ≡ true → (x : X) × Stands xs x × (list_any test (f x) ≡ true)

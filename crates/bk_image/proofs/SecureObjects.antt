@@ -13,7 +13,8 @@ use Rattle.bk_state.specs.declared.image.Image.{Image}
 use Rattle.bk_state.specs.declared.image.ObjectRec.{ObjectRec}
 use Rattle.bk_image.specs.Parts.{last}
 use Rattle.bk_image.specs.Subjects.{is_listed}
-use Rattle.bk_image.specs.Objects.{objects_in, facts_at, has_cell, has_parent, dominates_above, fits_kind, fits_cell, fits_modes, fits_subjects, room, path_follows}
+use Rattle.bk_image.specs.Objects.{objects_in, facts_at, has_cell, has_parent, dominates_above, fits_kind, fits_cell, fits_modes, fits_subjects, room}
+use Rattle.bk_image.specs.Objects.{path_follows}
 use Rattle.bk_image.specs.Accepted.{IsAccepted}
 use Rattle.bk_image.proofs.SecureLists.{Stands, not_false, passes_both, lt_of}
 use Rattle.bk_image.proofs.SecureFound.{found_facts, found_first, kept_passes}

@@ -1,5 +1,6 @@
 -- The rows of the state of an accepted image: modes of the kind, and only for subjects that are there.
-use Rattle.std.proofs.Common.{◌≡◌, ℕ, ◌+◌, ◌-◌, ◌/◌, ◌%◌, ◌<◌, ◌≤◌, Bool, true, false, not, ◌&&◌, ◌||◌, ◌==◌, List, length, map, drop, get_or, Some, refl, sym, ap, subst, ◌∙◌, ◌⊎◌, inl, inr, arith}
+use Rattle.std.proofs.Common.{◌≡◌, ℕ, ◌+◌, ◌-◌, ◌/◌, ◌%◌, ◌<◌, ◌≤◌, Bool, true, false, not, ◌&&◌, ◌||◌, ◌==◌, List, length, map, drop, get_or, Some, refl, sym}
+use Rattle.std.proofs.Common.{ap, subst, ◌∙◌, ◌⊎◌, inl, inr, arith}
 use Rattle.std.proofs.lemmas.Bool.{cases_lt}
 use Rattle.std.proofs.lemmas.List.{get_or-drop, length-map}
 use Rattle.bk_object.specs.Modes.{Mode, Read, Execute, Write, Append, has, is_within, no_modes}
@@ -17,7 +18,8 @@ use Rattle.bk_image.proofs.SecureLists.{implied, all_at, zero_of}
 use Rattle.bk_image.proofs.SecureFound.{found_facts}
 use Rattle.bk_image.proofs.SecureObjects.{checked_at}
 
-four : (a b c d : Bool) → (a && b && c && d) ≡ true → (a ≡ true) × (b ≡ true) × (c ≡ true) × (d ≡ true)
+-- four tests that all hold
+pub four : (a b c d : Bool) → (a && b && c && d) ≡ true → (a ≡ true) × (b ≡ true) × (c ≡ true) × (d ≡ true)
 four true true true true h = (refl, refl, refl, refl)
 four true true true false h = cc
 four true true false d h = cc

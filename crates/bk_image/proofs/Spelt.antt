@@ -1,5 +1,6 @@
 -- What is read as a part is spelt by exactly the bytes that were taken.
-use Rattle.std.proofs.Common.{◌≡◌, ℕ, zero, suc, ◌+◌, ◌*◌, ◌/◌, ◌%◌, ◌<◌, ◌≤◌, Bool, true, false, List, [], ◌∷◌, ◌++◌, length, take, drop, Option, Some, None, Ok, refl, sym, ap, subst, ◌∙◌, arith, ◌==◌, length-take, length-drop}
+use Rattle.std.proofs.Common.{◌≡◌, ℕ, zero, suc, ◌+◌, ◌*◌, ◌/◌, ◌%◌, ◌<◌, ◌≤◌, Bool, true, false, List, [], ◌∷◌, ◌++◌, length, take, drop, Option, Some, None}
+use Rattle.std.proofs.Common.{Ok, refl, sym, ap, subst, ◌∙◌, arith, ◌==◌, length-take, length-drop}
 use Rattle.std.specs.Prelude.{◌^◌, not, ◌&&◌, ◌||◌, nat_lt, is_none, unwrap_or, flat_map, if◌then◌else◌}
 use Rattle.bk_space.specs.declared.Mode.TheVariants.{Supervisor, User}
 use Rattle.std.proofs.lemmas.Bool.Decides.{nat_tests}
@@ -17,11 +18,15 @@ use Rattle.bk_image.specs.declared.fault.ImageField.{ImageField}
 use Rattle.bk_image.specs.Parts.{Passes, ◌>>=◌, first_failing, part, checked, each_of, is_outside}
 use Rattle.bk_image.specs.Numbers.{byte, word, words_of, path_in}
 use Rattle.bk_image.specs.Header.{byte_at, word_at}
-use Rattle.bk_image.specs.Subjects.{level_of, level_checks, level_at, schedule_checks, schedule_at, window_of, window_checks, window_at, is_mode, mode_of, subject_of, subject_fails, subject_at}
+use Rattle.bk_image.specs.Subjects.{level_of, level_checks, level_at, schedule_checks, schedule_at, window_of, window_checks, window_at, is_mode, mode_of}
+use Rattle.bk_image.specs.Subjects.{subject_of, subject_fails, subject_at}
 use Rattle.bk_image.specs.Objects.{Objects, kind_of, blocks_of, object_of, object_fails, words_checks, object_at}
 use Rattle.bk_image.specs.Holds.{hold_of, hold_checks, hold_at}
-use Rattle.bk_image.specs.Spelling.{word_bytes, path_bytes, level_bytes, mode_number, window_bytes, subject_record, subject_bytes, blocks_byte, kind_bytes, row_bytes, object_record, object_bytes, hold_bytes}
-use Rattle.bk_image.proofs.Takes.{IsBytes, IsBytes-drop, IsBytes-take, bind_ok, ok_is, Takes-then, Takes-value, part_takes, checked_ok, Spells, checked_spells, all_take, by_places, word_bytes-word, words_back}
+use Rattle.bk_image.specs.Spelling.{word_bytes, path_bytes, level_bytes, mode_number, window_bytes, subject_record, subject_bytes, blocks_byte, kind_bytes}
+use Rattle.bk_image.specs.Spelling.{row_bytes, object_record, object_bytes, hold_bytes}
+use Rattle.bk_base.proofs.FaultLemmas.{bind_ok, ok_is}
+use Rattle.bk_image.proofs.Takes.{IsBytes, IsBytes-drop, IsBytes-take, Takes-then, Takes-value, part_takes, checked_ok, Spells, checked_spells, all_take}
+use Rattle.bk_image.proofs.Takes.{by_places, word_bytes-word, words_back}
 
 -- ---- numbers
 

@@ -5,9 +5,12 @@ use Rattle.std.proofs.lemmas.Bool.Decides.{nat_tests}
 use Rattle.std.proofs.lemmas.List.{take_at}
 use Rattle.std.proofs.lemmas.List.Concat.{flat_map-cons}
 use Rattle.bk_state.specs.declared.image.Image.{Image}
+use Rattle.bk_object.specs.Rows.{most_subjects}
+use Rattle.bk_level.specs.Levels.{most_levels}
+use Rattle.bk_image.specs.Limits.{most_turns, most_lines, most_places, most_objects, most_holds}
 use Rattle.bk_image.specs.declared.fault.ImageFault.{ImageFault}
 use Rattle.bk_image.specs.declared.fault.ImageField.TheVariants as field
-use Rattle.bk_image.specs.declared.fault.ImageStop.{ImageStop}
+use Rattle.bk_base.specs.declared.stop.Stop.{Stop}
 use Rattle.bk_image.specs.Parts.{Rest, Reads, ◌>>=◌, Gives, each_of, is_outside}
 use Rattle.bk_image.specs.Numbers.{byte, word}
 use Rattle.bk_image.specs.Header.{is_magic, magic_at, byte_at, word_at, header_at}
@@ -16,7 +19,8 @@ use Rattle.bk_image.specs.Objects.{objects_in, object_at, after_objects}
 use Rattle.bk_image.specs.Holds.{hold_at}
 use Rattle.bk_image.specs.Image.{image_at, image_of}
 use Rattle.bk_image.specs.Spelling.{word_bytes, header_bytes, header_of, level_bytes, subject_bytes, object_bytes, hold_bytes, spelling, IsSpelt}
-use Rattle.bk_image.proofs.Takes.{IsBytes, bind_ok, ok_is, Takes, Takes-nothing, Takes-then, checked_ok, Spells, checked_spells, all_take, by_places}
+use Rattle.bk_base.proofs.FaultLemmas.{bind_ok, ok_is}
+use Rattle.bk_image.proofs.Takes.{IsBytes, Takes, Takes-nothing, Takes-then, checked_ok, Spells, checked_spells, all_take, by_places}
 use Rattle.bk_image.proofs.Spelt.{byte_spells, word_spells, level_spells, schedule_spells, subject_spells, object_spells, hold_spells}
 use Rattle.bk_image.proofs.Steps as step
 
@@ -80,16 +84,16 @@ header_ends rest =
     ends_then header_bytes rest [] rest (λ x. 66 ∷ 76 ∷ 80 ∷ 75 ∷ []) magic_at step.from_magic magic_spells (λ m r.
     let f0 : List ℕ = 66 ∷ 76 ∷ 80 ∷ 75 ∷ [] in
     ends_then header_bytes rest f0 r (λ x. word_bytes 1) (word_at field.Version 1 1) step.from_version version_spells (λ v r.
-    ends_then header_bytes rest (f0 ++ word_bytes 1) r word_bytes (word_at field.Turns 1 4096) step.from_turns (word_spells field.Turns 1 4096) (λ turns r.
+    ends_then header_bytes rest (f0 ++ word_bytes 1) r word_bytes (word_at field.Turns 1 most_turns) step.from_turns (word_spells field.Turns 1 most_turns) (λ turns r.
     let f2 : List ℕ = f0 ++ word_bytes 1 ++ word_bytes turns in
-    ends_then header_bytes rest f2 r (λ x. x ∷ []) (byte_at field.Counts 1 64) (step.from_levels turns) (byte_spells field.Counts 1 64) (λ levels r.
-    ends_then header_bytes rest (f2 ++ (levels ∷ [])) r (λ x. x ∷ []) (byte_at field.Counts 1 32) (step.from_subjects turns levels) (byte_spells field.Counts 1 32) (λ subjects r.
+    ends_then header_bytes rest f2 r (λ x. x ∷ []) (byte_at field.Counts 1 most_levels) (step.from_levels turns) (byte_spells field.Counts 1 most_levels) (λ levels r.
+    ends_then header_bytes rest (f2 ++ (levels ∷ [])) r (λ x. x ∷ []) (byte_at field.Counts 1 most_subjects) (step.from_subjects turns levels) (byte_spells field.Counts 1 most_subjects) (λ subjects r.
     let f4 : List ℕ = f2 ++ (levels ∷ []) ++ (subjects ∷ []) in
-    ends_then header_bytes rest f4 r (λ x. x ∷ []) (byte_at field.Counts 0 16) (step.from_lines turns levels subjects) (byte_spells field.Counts 0 16) (λ lines r.
-    ends_then header_bytes rest (f4 ++ (lines ∷ [])) r (λ x. x ∷ []) (byte_at field.Counts 1 64) (step.from_schedule turns levels subjects lines) (byte_spells field.Counts 1 64) (λ schedule r.
+    ends_then header_bytes rest f4 r (λ x. x ∷ []) (byte_at field.Counts 0 most_lines) (step.from_lines turns levels subjects) (byte_spells field.Counts 0 most_lines) (λ lines r.
+    ends_then header_bytes rest (f4 ++ (lines ∷ [])) r (λ x. x ∷ []) (byte_at field.Counts 1 most_places) (step.from_schedule turns levels subjects lines) (byte_spells field.Counts 1 most_places) (λ schedule r.
     let f6 : List ℕ = f4 ++ (lines ∷ []) ++ (schedule ∷ []) in
-    ends_then header_bytes rest f6 r word_bytes (word_at field.Counts 1 3904) (step.from_objects turns levels subjects lines schedule) (word_spells field.Counts 1 3904) (λ objects r.
-    ends_then header_bytes rest (f6 ++ word_bytes objects) r word_bytes (word_at field.Counts 0 65535) (step.from_holds turns levels subjects lines schedule objects) (word_spells field.Counts 0 65535) (λ holds r.
+    ends_then header_bytes rest f6 r word_bytes (word_at field.Counts 1 most_objects) (step.from_objects turns levels subjects lines schedule) (word_spells field.Counts 1 most_objects) (λ objects r.
+    ends_then header_bytes rest (f6 ++ word_bytes objects) r word_bytes (word_at field.Counts 0 most_holds) (step.from_holds turns levels subjects lines schedule objects) (word_spells field.Counts 0 most_holds) (λ holds r.
     ends_done header_bytes rest r (step.counted turns levels subjects lines schedule objects holds))))))))))
 
 header_spells : Spells header_bytes header_at
@@ -137,6 +141,6 @@ image_spelt bytes image n fits e =
     subst (λ (y : Image × ℕ). IsSpelt bytes y.0 y.1) (ok_is (a.0.0, a.0.1.at) (image, n) a.2) (record { text = front; count = count })
 
 -- the same of what a function returned
-pub is_spelt : {Y : Type 0} (bytes : List ℕ) (view : Y → Image × ℕ) (r : Result Y ImageStop) → IsBytes bytes → Gives view r (image_of bytes) → IfOk r (λ x. IsSpelt bytes (view x).0 (view x).1)
+pub is_spelt : {Y : Type 0} (bytes : List ℕ) (view : Y → Image × ℕ) (r : Result Y (Stop ImageFault)) → IsBytes bytes → Gives view r (image_of bytes) → IfOk r (λ x. IsSpelt bytes (view x).0 (view x).1)
 is_spelt bytes view (Ok x) fits given = image_spelt bytes (view x).0 (view x).1 fits given
 is_spelt bytes view (Err e) fits given = tt

@@ -5,6 +5,9 @@ use Rattle.bk_state.specs.declared.image.Image.{Image}
 use Rattle.bk_state.specs.declared.image.Hold.{Hold}
 use Rattle.bk_state.specs.declared.image.ObjectRec.{ObjectRec}
 use Rattle.bk_state.specs.declared.image.SubjectRec.{SubjectRec}
+use Rattle.bk_object.specs.Rows.{most_subjects}
+use Rattle.bk_level.specs.Levels.{most_levels}
+use Rattle.bk_image.specs.Limits.{most_turns, most_lines, most_places, most_objects, most_holds}
 use Rattle.bk_image.specs.declared.fault.ImageField.TheVariants as field
 use Rattle.bk_image.specs.Parts.{Rest, Reads, ◌>>=◌, each_of}
 use Rattle.bk_image.specs.Header.{Header, byte_at, word_at}
@@ -21,25 +24,25 @@ abbrev pub from_holds : (turns levels subjects lines schedule objects : ℕ) →
 from_holds turns levels subjects lines schedule objects x = Ok (counted turns levels subjects lines schedule objects x.0, x.1)
 
 abbrev pub from_objects : (turns levels subjects lines schedule : ℕ) → ℕ × Rest → Reads Header
-from_objects turns levels subjects lines schedule x = word_at field.Counts 0 65535 x.1 >>= from_holds turns levels subjects lines schedule x.0
+from_objects turns levels subjects lines schedule x = word_at field.Counts 0 most_holds x.1 >>= from_holds turns levels subjects lines schedule x.0
 
 abbrev pub from_schedule : (turns levels subjects lines : ℕ) → ℕ × Rest → Reads Header
-from_schedule turns levels subjects lines x = word_at field.Counts 1 3904 x.1 >>= from_objects turns levels subjects lines x.0
+from_schedule turns levels subjects lines x = word_at field.Counts 1 most_objects x.1 >>= from_objects turns levels subjects lines x.0
 
 abbrev pub from_lines : (turns levels subjects : ℕ) → ℕ × Rest → Reads Header
-from_lines turns levels subjects x = byte_at field.Counts 1 64 x.1 >>= from_schedule turns levels subjects x.0
+from_lines turns levels subjects x = byte_at field.Counts 1 most_places x.1 >>= from_schedule turns levels subjects x.0
 
 abbrev pub from_subjects : (turns levels : ℕ) → ℕ × Rest → Reads Header
-from_subjects turns levels x = byte_at field.Counts 0 16 x.1 >>= from_lines turns levels x.0
+from_subjects turns levels x = byte_at field.Counts 0 most_lines x.1 >>= from_lines turns levels x.0
 
 abbrev pub from_levels : (turns : ℕ) → ℕ × Rest → Reads Header
-from_levels turns x = byte_at field.Counts 1 32 x.1 >>= from_subjects turns x.0
+from_levels turns x = byte_at field.Counts 1 most_subjects x.1 >>= from_subjects turns x.0
 
 abbrev pub from_turns : ℕ × Rest → Reads Header
-from_turns x = byte_at field.Counts 1 64 x.1 >>= from_levels x.0
+from_turns x = byte_at field.Counts 1 most_levels x.1 >>= from_levels x.0
 
 abbrev pub from_version : ℕ × Rest → Reads Header
-from_version x = word_at field.Turns 1 4096 x.1 >>= from_turns
+from_version x = word_at field.Turns 1 most_turns x.1 >>= from_turns
 
 abbrev pub from_magic : Unit {0} × Rest → Reads Header
 from_magic x = word_at field.Version 1 1 x.1 >>= from_version

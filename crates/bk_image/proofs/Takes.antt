@@ -1,12 +1,15 @@
 -- What a part that was read took from the front of the bytes.
-use Rattle.std.proofs.Common.{◌≡◌, ℕ, zero, suc, ◌+◌, ◌*◌, ◌/◌, ◌%◌, ◌<◌, ◌≤◌, Bool, true, false, cond, ltb, List, [], ◌∷◌, ◌++◌, length, get_or, take, drop, Result, Ok, Err, refl, sym, ap, subst, ◌∙◌, append_assoc, arith, inl, inr}
+use Rattle.std.proofs.Common.{◌≡◌, ℕ, zero, suc, ◌+◌, ◌*◌, ◌/◌, ◌%◌, ◌<◌, ◌≤◌, cond, ltb, List, [], ◌∷◌, ◌++◌, length, get_or, take, drop, Ok, refl, sym, ap}
+use Rattle.std.proofs.Common.{subst, ◌∙◌, append_assoc, arith, inl, inr}
 use Rattle.std.specs.Prelude.{flat_map}
 use Rattle.std.proofs.lemmas.Bool.{cases_lt, ltb-false}
 use Rattle.std.proofs.lemmas.List.{take-append-drop, length-append, length-take, get_or-drop, get_or-take, get_or_past, append-nil}
 use Rattle.std.proofs.lemmas.List.Concat.{flat_map-cons}
-use Rattle.bk_image.specs.declared.fault.ImageFault.{ImageFault}
 use Rattle.bk_image.specs.declared.fault.ImageField.TheVariants as field
-use Rattle.bk_image.specs.Parts.{Rest, Reads, Check, Passes, ◌>>=◌, fault, first_failing, limit, part, checked, each_of}
+use Rattle.bk_base.specs.Parts.{part as part_of}
+use Rattle.bk_base.proofs.FaultLemmas.{bind_ok, guard_ok, ok_is, all_pass}
+use Rattle.bk_image.specs.Limits.{most_bytes}
+use Rattle.bk_image.specs.Parts.{Rest, Reads, Check, Passes, ◌>>=◌, fault, fault_at, first_failing, part, checked, each_of}
 use Rattle.bk_image.specs.Numbers.{byte, words_of}
 use Rattle.bk_image.specs.Spelling.{word_bytes, words_bytes}
 
@@ -23,30 +26,6 @@ IsBytes-take n bytes h i =
       | inl lt ↦ rw (get_or-take n bytes i 0 lt) (h i)
       | inr le ↦ rw (get_or_past (take n bytes) i 0 (omega (arith, length-take n bytes))) (omega arith)
     ]
-
--- ---- steps that didn't fail
-
--- the value of a step that didn't fail
-pub bind_ok : {A B : Type 0} (r : Result A ImageFault) (f : A → Result B ImageFault) (y : B) → (r >>= f) ≡ Ok y → (x : A) × (r ≡ Ok x) × (f x ≡ Ok y)
-bind_ok (Ok x) f y e = (x, refl, e)
-bind_ok (Err d) f y e = absurd cc
-
--- a test that didn't fail
-pub guard_ok : {A : Type 0} (b : Bool) (d : ImageFault) (r : Result A ImageFault) (y : A) → cond b (Err d) r ≡ Ok y → (b ≡ false) × (r ≡ Ok y)
-guard_ok true d r y e = absurd cc
-guard_ok false d r y e = (refl, e)
-
-abbrev pub done : {A : Type 0} → A → Result A ImageFault
-done x = Ok x
-
-pub ok_is : {A : Type 0} (x y : A) → done x ≡ done y → x ≡ y
-ok_is x y e = cc
-
-pub all_pass : (at : ℕ) (checks : List Check) (u : Unit {0}) → first_failing at checks ≡ Ok u → Passes checks
-all_pass at [] u e = tt
-all_pass at (c ∷ cs) u e =
-    let g = guard_ok c.1 (record { at = at; field = c.0 }) (first_failing at cs) u e in
-    (g.0, all_pass at cs u g.1)
 
 -- ---- what was taken
 
@@ -73,10 +52,10 @@ Takes-value text rest bytes y x same spelt taken = subst (λ z. Takes rest (text
 abbrev pub after : ℕ → Rest → Rest
 after n rest = record { at = rest.at + n; bytes = drop n rest.bytes }
 
-pub part_ok : (n : ℕ) (rest : Rest) (x : List ℕ × Rest) → part n rest ≡ Ok x → (rest.at + n ≤ limit) × (n ≤ length rest.bytes) × ((take n rest.bytes, after n rest) ≡ x)
-unfolding part
+pub part_ok : (n : ℕ) (rest : Rest) (x : List ℕ × Rest) → part n rest ≡ Ok x → (rest.at + n ≤ most_bytes) × (n ≤ length rest.bytes) × ((take n rest.bytes, after n rest) ≡ x)
+unfolding part_of
 part_ok n rest x e =
-    let g = guard_ok (ltb limit (rest.at + n)) (record { at = rest.at; field = field.Long }) (cond (ltb (length rest.bytes) n) (fault (rest.at + length rest.bytes) field.End) (Ok (take n rest.bytes, after n rest))) x e in
+    let g = guard_ok (ltb most_bytes (rest.at + n)) (record { at = rest.at; field = field.Long }) (cond (ltb (length rest.bytes) n) (fault (rest.at + length rest.bytes) field.End) (Ok (take n rest.bytes, after n rest))) x e in
     let h = guard_ok (ltb (length rest.bytes) n) (record { at = rest.at + length rest.bytes; field = field.End }) (Ok (take n rest.bytes, after n rest)) x g.1 in
     (ltb-false _ _ g.0, ltb-false _ _ h.0, ok_is (take n rest.bytes, after n rest) x h.1)
 
@@ -112,7 +91,7 @@ checked_ok n checks value rest x fits e =
       takes = subst (λ (r : Rest). Takes rest a.0.0 r) (λ i. (q i).1) t.0;
       count = t.1;
       fit = t.2;
-      passed = all_pass rest.at (checks a.0.0) b.0 b.1;
+      passed = all_pass (fault_at rest.at) (checks a.0.0) b.0 b.1;
       is = λ i. (q i).0;
     }
 

@@ -8,13 +8,13 @@ use Rattle.bk_state.specs.declared.image.Image.{Image}
 use Rattle.bk_state.specs.declared.image.ObjectRec.{ObjectRec}
 use Rattle.bk_image.specs.declared.fault.ImageFault.{ImageFault}
 use Rattle.bk_image.specs.declared.fault.ImageField.TheVariants as field
-use Rattle.bk_image.specs.declared.fault.ImageStop.{ImageStop}
+use Rattle.bk_base.specs.declared.stop.Stop.{Stop}
 use Rattle.bk_image.specs.Parts.{◌>>=◌, Gives}
 use Rattle.bk_image.specs.Image.{image_of}
 use Rattle.bk_image.specs.Spelling.{spelling}
 use Rattle.bk_image.specs.Writing.{ObjectFits, Fits, blocks_fit, object_fits, counts_fit, written}
-use Rattle.bk_image.proofs.Takes.{bind_ok, ok_is}
-use Rattle.bk_image.proofs.Grown.{image_grows}
+use Rattle.bk_base.proofs.FaultLemmas.{bind_ok, ok_is}
+use Rattle.bk_image.proofs.Fronts.{image_grows}
 use Rattle.bk_image.proofs.OnlyObjects.{ObjectIsSpelt}
 use Rattle.bk_image.proofs.OnlyImage.{IsWritable, spelling_only}
 
@@ -71,6 +71,6 @@ written_again image fits bytes e more =
     subst (λ (t : List ℕ). image_of (t ++ more) ≡ Ok (image, length t)) (ok_is (spelling image) bytes b.2) again
 
 -- the same of what a function returned
-pub is_written : {Y : Type 0} (image : Image) (view : Y → List ℕ) (r : Result Y ImageStop) → IfOk r (λ y. Fits image) → Gives view r (written image) → IfOk r (λ y. (more : List ℕ) → image_of (view y ++ more) ≡ Ok (image, length (view y)))
+pub is_written : {Y : Type 0} (image : Image) (view : Y → List ℕ) (r : Result Y (Stop ImageFault)) → IfOk r (λ y. Fits image) → Gives view r (written image) → IfOk r (λ y. (more : List ℕ) → image_of (view y ++ more) ≡ Ok (image, length (view y)))
 is_written image view (Ok y) fits given = written_again image fits (view y) given
 is_written image view (Err e) fits given = tt

@@ -1,13 +1,14 @@
 -- Holds: by which modes a subject holds an object at the start.
 use Rattle.std.specs.Prelude.{ℕ, Bool, true, not, ◌&&◌, ◌||◌, ◌==◌, nat_lt, List, [], ◌∷◌, length, map, slice_index_or, Option, Some, None, is_none}
 use Rattle.std.specs.Ordering.{is_lt}
-use Rattle.bk_level.specs.Levels.{Level, dominates, is_same_level, level_at}
+use Rattle.bk_level.specs.Levels.{Level, dominates, level_at}
 use Rattle.bk_path.specs.Paths.{Path, path_cmp, is_root, parent}
 use Rattle.bk_object.specs.Kinds.{kind_modes}
 use Rattle.bk_object.specs.Rows.{in_row}
-use Rattle.bk_object.specs.Modes.{Read, Execute, Write, Append, has, is_within}
+use Rattle.bk_object.specs.Modes.{Mode, Read, Execute, Write, Append, has, is_within}
 use Rattle.bk_object.specs.declared.modes.Modes.{Modes}
 use Rattle.bk_quota.specs.Charges.{passes}
+use Rattle.bk_state.specs.Allowed.{is_simple, is_star}
 use Rattle.bk_state.specs.Start.{clearance_from}
 use Rattle.bk_state.specs.declared.image.Hold.{Hold}
 use Rattle.bk_state.specs.declared.image.SubjectRec.{SubjectRec}
@@ -30,22 +31,28 @@ hold_follows (Some last) hold = nat_lt last.subject hold.subject || last.subject
 abbrev pub clearance_in : List SubjectRec → ℕ → Clearance
 clearance_in subjects n = slice_index_or (map clearance_from subjects) n (record { greatest = 0; current = 0 })
 
+-- the subject's greatest level
 abbrev pub greatest_in : List Level → List SubjectRec → ℕ → Level
 greatest_in levels subjects n = level_at levels (clearance_in subjects n).greatest
 
+-- its current level
 abbrev pub current_in : List Level → List SubjectRec → ℕ → Level
 current_in levels subjects n = level_at levels (clearance_in subjects n).current
 
--- for r, e and w the greatest level dominates the object's
-abbrev pub fits_ss : Modes → (greatest object : Level) → Bool
-fits_ss modes greatest object = not (has modes Read || has modes Execute || has modes Write) || dominates greatest object
+-- each mode of the set passes the test
+abbrev pub each_mode : (Mode → Bool) → Modes → Bool
+each_mode test modes = asks Read && asks Execute && asks Write && asks Append
+  where
+    asks : Mode → Bool
+    asks mode = not (has modes mode) || test mode
 
--- for r and e the current level dominates the object's, for w it is the object's, and for a the object's dominates it
+-- the simple security condition and the *-property hold of each mode of the set
+abbrev pub fits_ss : Modes → (greatest object : Level) → Bool
+fits_ss modes greatest object = each_mode (λ mode. is_simple mode greatest object) modes
+
+-- the same of the *-property
 abbrev pub fits_star : Modes → (current object : Level) → Bool
-fits_star modes current object =
-    (not (has modes Read || has modes Execute) || dominates current object)
-    && (not (has modes Write) || is_same_level object current)
-    && (not (has modes Append) || dominates object current)
+fits_star modes current object = each_mode (λ mode. is_star mode current object) modes
 
 -- the current level dominates that of the object at the parent
 abbrev pub dominates_parent : List Level → Objects → (current : Level) → Path → Bool
@@ -66,5 +73,6 @@ hold_checks levels subjects objects before is_path hold =
     ∷ (field.Parent, not (is_root hold.path) && not (dominates_parent levels objects (current_in levels subjects hold.subject) hold.path))
     ∷ []
 
+-- six bytes
 unfoldable pub hold_at : List Level → List SubjectRec → Objects → List Hold → Rest → Reads Hold
 hold_at levels subjects objects before = checked 6 (λ b. hold_checks levels subjects objects before (not (is_none (path_in b 2))) (hold_of b)) hold_of

@@ -2,12 +2,14 @@
 use Rattle.std.specs.Prelude.{◌≡◌, ℕ, List, [], length, Result, Ok}
 use Rattle.bk_state.specs.declared.image.Image.{Image}
 use Rattle.bk_image.specs.declared.fault.ImageFault.{ImageFault}
+use Rattle.bk_base.specs.Parts.{first_of}
 use Rattle.bk_image.specs.Parts.{Rest, Reads, ◌>>=◌, each_of}
 use Rattle.bk_image.specs.Header.{header_at}
 use Rattle.bk_image.specs.Subjects.{level_at, schedule_at, subject_at}
 use Rattle.bk_image.specs.Objects.{objects_in, object_at, after_objects}
 use Rattle.bk_image.specs.Holds.{hold_at}
 
+-- what follows what, and the checks between them
 unfoldable pub image_at : Rest → Reads Image
 image_at rest = do
   header ← header_at rest
@@ -32,9 +34,7 @@ image_at rest = do
 
 -- the image that the first bytes spell, and their number; or the first fault
 unfoldable pub image_of : List ℕ → Result (Image × ℕ) ImageFault
-image_of bytes = do
-  image ← image_at (record { at = 0; bytes = bytes })
-  Ok (image.0, image.1.at)
+image_of bytes = first_of image_at bytes
 
 -- the bytes are the image's, all of them
 abbrev pub IsImage : List ℕ → Image → Type 0

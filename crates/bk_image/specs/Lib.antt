@@ -1,4 +1,5 @@
 pub mod Texts
+pub mod Limits
 pub mod Parts
 pub mod Numbers
 pub mod Header
@@ -10,3 +11,4 @@ pub mod Image
 pub mod Spelling
 pub mod Accepted
 pub mod Writing
+pub mod Example

@@ -2,6 +2,7 @@
 use Rattle.std.specs.Prelude.{ℕ, ◌+◌, ◌*◌, List, [], ◌∷◌, get_or, Option, unwrap_or}
 use Rattle.bk_path.specs.Paths.{Path, unpack}
 
+-- the byte at the place
 abbrev pub byte : List ℕ → ℕ → ℕ
 byte bytes i = get_or bytes i 0
 

@@ -1,5 +1,6 @@
 -- Objects, their words, and what is checked after all of them.
-use Rattle.std.specs.Prelude.{ℕ, ◌+◌, ◌*◌, Bool, true, false, not, ◌&&◌, ◌||◌, ◌==◌, nat_lt, if◌then◌else◌, List, [], ◌∷◌, length, take, drop, map, Option, Some, None, is_none, Result, Ok}
+use Rattle.std.specs.Prelude.{ℕ, ◌+◌, ◌*◌, Bool, true, false, not, ◌&&◌, ◌||◌, ◌==◌, nat_lt, if◌then◌else◌, List, [], ◌∷◌, length, take, drop, map, Option}
+use Rattle.std.specs.Prelude.{Some, None, is_none, Result, Ok}
 use Rattle.std.specs.List.{list_any, list_all, count_by}
 use Rattle.std.specs.Ordering.{is_lt}
 use Rattle.std.specs.FinMap as finmap
@@ -24,9 +25,11 @@ use Rattle.bk_image.specs.Subjects.{is_listed}
 
 -- ---- the objects by path, as the state has them
 
+-- objects by path
 abbrev pub Objects : Type 0
 Objects = finmap.FinMap path_cmp Object
 
+-- those of an image
 unfoldable pub objects_in : List ObjectRec → Objects
 objects_in objects = finmap.from_entries (map (λ o. (o.path, object_from o)) objects)
 
@@ -48,6 +51,7 @@ has_cell objects o = is_root o.path || is_directory o.facts.kind && not (level_a
 
 -- ---- object: path, kind, blocks or line number, level, zero, quota, row, word count; then its words
 
+-- kinds by their numbers
 abbrev pub kind_of : (number : ℕ) → (line : ℕ) → Kind
 kind_of number line = if number == 0 then Directory else if number == 1 then Segment else if number == 2 then Mailbox else Line line
 
@@ -58,6 +62,7 @@ blocks_of Segment blocks = blocks
 blocks_of Mailbox blocks = blocks
 blocks_of (Line n) blocks = 0
 
+-- the facts that 28 bytes tell
 abbrev pub facts_of : List ℕ → Facts
 facts_of b = record {
   kind = kind_of (byte b 4) (byte b 5);
@@ -67,6 +72,7 @@ facts_of b = record {
   row = split_pairs (take 16 (drop 10 b));
 }
 
+-- the object that 28 bytes and words tell
 abbrev pub object_of : List ℕ → List ℕ → ObjectRec
 object_of b words = record { path = path_at b 0; facts = facts_of b; words = words }
 
@@ -77,6 +83,7 @@ pub record Told : Type 0 where
   pub zero : Bool
   pub count : ℕ
 
+-- the same from the bytes
 abbrev pub told_by : List ℕ → Told
 told_by b = record { path = not (is_none (path_in b 0)); kind = not (nat_lt 3 (byte b 4)); zero = byte b 7 == 0; count = word b 26 }
 
@@ -109,6 +116,7 @@ fits_cell false quota = quota == 0
 abbrev pub fits_modes : Kind → List Modes → Bool
 fits_modes kind row = list_all (λ modes. is_within modes (kind_modes kind)) row
 
+-- from that number on no subject has modes
 abbrev pub fits_subjects : (subjects : ℕ) → List Modes → Bool
 fits_subjects subjects row = list_all (λ modes. modes.0 == 0) (drop subjects row)
 
@@ -140,6 +148,7 @@ object_checks levels subjects lines before told o =
     ∷ (field.Contents, nat_lt (room o.facts) told.count)
     ∷ []
 
+-- the word is there and is 0
 abbrev pub is_zero : Option ℕ → Bool
 is_zero None = false
 is_zero (Some n) = n == 0
@@ -150,6 +159,7 @@ words_checks words =
     (field.Contents, is_zero (last words))
     ∷ []
 
+-- those of 28 bytes
 abbrev pub object_fails : List Level → (subjects lines : ℕ) → List ObjectRec → List ℕ → List Check
 object_fails levels subjects lines before b = object_checks levels subjects lines before (told_by b) (object_of b [])
 

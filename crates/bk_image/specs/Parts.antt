@@ -1,75 +1,46 @@
 -- Parts of an image: what is read, the place of its first byte, and the first fault.
-use Rattle.std.specs.Prelude.{◌≡◌, ℕ, zero, suc, ◌+◌, Bool, false, if◌then◌else◌, nat_lt, ◌||◌, List, [], ◌∷◌, ◌++◌, length, take, drop, slice_get, ◌-◌, Option, Result, Ok, Err}
+use Rattle.std.specs.Prelude.{ℕ, Bool, nat_lt, ◌||◌, List, length, slice_get, ◌-◌, Option, Result, Err}
+use Rattle.bk_base.specs.Faults.{first_failing as first_failing_of}
+use Rattle.bk_base.specs.Parts.{Reads as Reads_of, Format, part as part_of, checked as checked_of}
 use Rattle.bk_image.specs.declared.fault.ImageFault.{ImageFault}
 use Rattle.bk_image.specs.declared.fault.ImageField.{ImageField}
 use Rattle.bk_image.specs.declared.fault.ImageField.TheVariants as field
-use Rattle.bk_image.specs.declared.fault.ImageStop.{ImageStop}
-use Rattle.bk_image.specs.declared.fault.ImageStop.TheVariants.{Bad, NoMemory}
+use Rattle.bk_image.specs.Limits.{most_bytes}
+pub use Rattle.bk_base.specs.Faults.{◌>>=◌, Passes, Refuses, Gives}
+pub use Rattle.bk_base.specs.Parts.{Rest, from}
+unfoldable pub use Rattle.bk_base.specs.Parts.{each_of}
 
--- the bytes that are left, and the place of the first of them
-pub record Rest : Type 0 where
-  pub at : ℕ
-  pub bytes : List ℕ
-
+-- a value and what is left, or the first fault
 abbrev pub Reads : Type 0 → Type 0
-Reads X = Result (X × Rest) ImageFault
-
-infixl 10 ◌>>=◌
-abbrev pub ◌>>=◌ : {A B : Type 0} → Result A ImageFault → (A → Result B ImageFault) → Result B ImageFault
-(Ok x) >>= f = f x
-(Err e) >>= f = Err e
+Reads X = Reads_of ImageFault X
 
 -- a fault of a field, told of the place
-abbrev pub fault : {A : Type 0} → ℕ → ImageField → Result A ImageFault
-fault at f = Err (record { at = at; field = f })
+abbrev pub fault_at : (at : ℕ) → ImageField → ImageFault
+fault_at at f = record { at = at; field = f }
 
--- What a function returned, seen by a view, is what the definition gives, unless memory ran out.
-abbrev pub Refuses : {Y : Type 0} → ImageStop → Result Y ImageFault → Type 0
-Refuses NoMemory read = Unit {0}
-Refuses (Bad f) read = read ≡ Err f
+-- the same as what a reading gives
+abbrev pub fault : {A : Type 0} → (at : ℕ) → ImageField → Result A ImageFault
+fault at f = Err (fault_at at f)
 
-abbrev pub Gives : {X Y : Type 0} → (X → Y) → Result X ImageStop → Result Y ImageFault → Type 0
-Gives view (Ok x) read = read ≡ Ok (view x)
-Gives view (Err e) read = Refuses e read
+-- images as a format: long and end are its own two fields
+abbrev pub image_format : Format ImageField ImageFault
+image_format = record { limit = most_bytes; fault = fault_at; long = field.Long; end = field.End }
 
 -- a field, and whether it is at fault
 abbrev pub Check : Type 0
 Check = ImageField × Bool
 
 -- the first check that fails, told of the place
-abbrev pub first_failing : ℕ → List Check → Result (Unit {0}) ImageFault
-first_failing at [] = Ok tt
-first_failing at (check ∷ checks) = if check.1 then fault at check.0 else first_failing at checks
-
--- no check fails
-abbrev pub Passes : List Check → Type 0
-Passes [] = Unit {0}
-Passes (check ∷ checks) = (check.1 ≡ false) × Passes checks
-
--- the most bytes that an image has
-abbrev pub limit : ℕ
-limit = 524288
+abbrev pub first_failing : (at : ℕ) → List Check → Result (Unit {0}) ImageFault
+first_failing at checks = first_failing_of (fault_at at) checks
 
 -- the next n bytes: long at the first of them, or else end at the input's length
-unfoldable pub part : ℕ → Rest → Reads (List ℕ)
-part n rest =
-    if nat_lt limit (rest.at + n) then fault rest.at field.Long
-    else if nat_lt (length rest.bytes) n then fault (rest.at + length rest.bytes) field.End
-    else Ok (take n rest.bytes, record { at = rest.at + n; bytes = drop n rest.bytes })
+abbrev pub part : ℕ → Rest → Reads (List ℕ)
+part n rest = part_of image_format n rest
 
 -- a part of n bytes: its checks when it is whole, told of its first byte, and then its value
 abbrev pub checked : {X : Type 0} → ℕ → (List ℕ → List Check) → (List ℕ → X) → Rest → Reads X
-checked n checks value rest = do
-  p ← part n rest
-  passed ← first_failing rest.at (checks p.0)
-  Ok (value p.0, p.1)
-
--- n parts of one kind, each read by what those before it gave
-unfoldable pub each_of : {X : Type 0} → (List X → Rest → Reads X) → ℕ → List X → Rest → Reads (List X)
-each_of next zero before rest = Ok (before, rest)
-each_of next (suc n) before rest = do
-  x ← next before rest
-  each_of next n (before ++ x.0 ∷ []) x.1
+checked n checks value rest = checked_of image_format n checks value rest
 
 -- the last of a list, where there is one
 abbrev pub last : {X : Type 0} → List X → Option X

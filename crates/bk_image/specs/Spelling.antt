@@ -23,6 +23,7 @@ use Rattle.bk_image.specs.Header.{Header}
 abbrev pub word_bytes : ℕ → List ℕ
 word_bytes n = n % 256 ∷ n / 256 ∷ []
 
+-- the same of each word
 abbrev pub words_bytes : List ℕ → List ℕ
 words_bytes [] = []
 words_bytes (n ∷ ns) = word_bytes n ++ words_bytes ns
@@ -37,13 +38,16 @@ header_bytes h =
     (66 ∷ 76 ∷ 80 ∷ 75 ∷ []) ++ word_bytes 1 ++ word_bytes h.turns
     ++ (h.levels ∷ []) ++ (h.subjects ∷ []) ++ (h.lines ∷ []) ++ (h.schedule ∷ []) ++ word_bytes h.objects ++ word_bytes h.holds
 
+-- class, zero and the mask of the categories
 abbrev pub level_bytes : Level → List ℕ
 level_bytes level = level.class ∷ 0 ∷ word_bytes (mask_of level.categories)
 
+-- the number of a mode of the processor
 abbrev pub mode_number : Mode → ℕ
 mode_number Supervisor = 1
 mode_number User = 3
 
+-- its number and its path
 abbrev pub window_bytes : WindowRec → List ℕ
 window_bytes window = window.index ∷ path_bytes window.path
 
@@ -53,6 +57,7 @@ subject_record s =
     (s.f_s ∷ s.f_c ∷ mode_number s.mode ∷ mode_number s.previous ∷ []) ++ words_bytes s.regs
     ++ word_bytes s.user_sp ++ word_bytes s.super_sp ++ word_bytes s.pc ++ words_bytes s.entries ++ (length s.windows ∷ [])
 
+-- its record, and then its windows
 abbrev pub subject_bytes : SubjectRec → List ℕ
 subject_bytes s = subject_record s ++ flat_map window_bytes s.windows
 
@@ -71,6 +76,7 @@ kind_bytes facts = kind_number facts.kind ∷ blocks_byte facts.kind facts.block
 abbrev pub row_byte : List Modes → (place : ℕ) → ℕ
 row_byte row place = (in_row row (2 * place)).0 + 16 * (in_row row (2 * place + 1)).0
 
+-- all 16 bytes of a row
 unfoldable pub row_bytes : List Modes → List ℕ
 row_bytes row = map (row_byte row) (range_with_len 0 16)
 
@@ -79,12 +85,15 @@ abbrev pub object_record : ObjectRec → List ℕ
 object_record o =
     path_bytes o.path ++ kind_bytes o.facts ++ word_bytes o.facts.quota ++ row_bytes o.facts.row ++ word_bytes (length o.words)
 
+-- its record, and then its words
 unfoldable pub object_bytes : ObjectRec → List ℕ
 object_bytes o = object_record o ++ words_bytes o.words
 
+-- subject, modes and path
 abbrev pub hold_bytes : Hold → List ℕ
 hold_bytes hold = hold.subject ∷ hold.modes.0 ∷ path_bytes hold.path
 
+-- the counts of an image
 abbrev pub header_of : Image → Header
 header_of image = record {
   turns = image.turns;
@@ -96,6 +105,7 @@ header_of image = record {
   holds = length image.holds;
 }
 
+-- the bytes of an image: its parts, one after the other
 unfoldable pub spelling : Image → List ℕ
 spelling image =
     header_bytes (header_of image) ++ flat_map level_bytes image.levels ++ image.schedule ++ flat_map subject_bytes image.subjects

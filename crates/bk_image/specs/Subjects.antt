@@ -1,8 +1,10 @@
 -- Levels, the schedule, and subjects with their windows.
-use Rattle.std.specs.Prelude.{ℕ, ◌%◌, Bool, true, not, ◌&&◌, ◌||◌, ◌==◌, nat_lt, if◌then◌else◌, List, [], ◌∷◌, length, take, drop, Option, Some, None, is_none, Ok}
-use Rattle.std.specs.List.{list_any, list_all}
-use Rattle.bk_level.specs.Levels.{Level, dominates, is_same_level, level_at as level_in}
+use Rattle.std.specs.Prelude.{ℕ, ◌%◌, Bool, true, not, ◌&&◌, ◌||◌, ◌==◌, nat_lt, if◌then◌else◌, List, [], ◌∷◌, length, take, drop, Option, Some, None, is_none}
+use Rattle.std.specs.Prelude.{Ok}
+use Rattle.std.specs.List.{list_all}
+use Rattle.bk_level.specs.Levels.{Level, dominates, has_level, level_at as level_in}
 use Rattle.bk_level.specs.Masks.{categories_of}
+use Rattle.bk_process.specs.NewProcess.{windows_of_process}
 use Rattle.bk_space.specs.declared.Mode.{Mode}
 use Rattle.bk_space.specs.declared.Mode.TheVariants.{Supervisor, User}
 use Rattle.bk_state.specs.declared.image.SubjectRec.{SubjectRec}
@@ -13,6 +15,7 @@ use Rattle.bk_image.specs.Numbers.{byte, word, words_of, path_in, path_at}
 
 -- ---- level: class, zero, categories
 
+-- the level that four bytes tell
 abbrev pub level_of : List ℕ → Level
 level_of b = record { class = byte b 0; categories = categories_of (word b 2) }
 
@@ -20,24 +23,28 @@ level_of b = record { class = byte b 0; categories = categories_of (word b 2) }
 abbrev pub level_checks : List Level → (zero : Bool) → Level → List Check
 level_checks before zero level =
     (field.Level, not zero)
-    ∷ (field.Level, list_any (is_same_level level) before)
+    ∷ (field.Level, has_level before level)
     ∷ []
 
+-- four bytes
 unfoldable pub level_at : List Level → Rest → Reads Level
 level_at before = checked 4 (λ b. level_checks before (byte b 1 == 0) (level_of b)) level_of
 
 -- ---- schedule: a subject's number
 
+-- there is a subject with the number
 abbrev pub schedule_checks : (subjects : ℕ) → (subject : ℕ) → List Check
 schedule_checks subjects subject =
     (field.Schedule, not (nat_lt subject subjects))
     ∷ []
 
+-- one byte
 unfoldable pub schedule_at : (subjects : ℕ) → List ℕ → Rest → Reads ℕ
 schedule_at subjects before = checked 1 (λ b. schedule_checks subjects (byte b 0)) (λ b. byte b 0)
 
 -- ---- window: its number, the path that it shows
 
+-- the window that five bytes tell
 abbrev pub window_of : List ℕ → WindowRec
 window_of b = record { index = byte b 0; path = path_at b 1 }
 
@@ -49,11 +56,12 @@ window_follows (Some window) index = nat_lt window.index index
 -- the words are a path or not, and the window after those before it
 abbrev pub window_checks : List WindowRec → (is_path : Bool) → WindowRec → List Check
 window_checks before is_path window =
-    (field.Window, nat_lt 31 window.index)
+    (field.Window, not (nat_lt window.index windows_of_process))
     ∷ (field.Window, not (window_follows (last before) window.index))
     ∷ (field.Window, not is_path)
     ∷ []
 
+-- five bytes
 unfoldable pub window_at : List WindowRec → Rest → Reads WindowRec
 window_at before = checked 5 (λ b. window_checks before (not (is_none (path_in b 1))) (window_of b)) window_of
 
@@ -64,9 +72,11 @@ window_at before = checked 5 (λ b. window_checks before (not (is_none (path_in 
 abbrev pub is_mode : ℕ → Bool
 is_mode number = number == 1 || number == 3
 
+-- the mode by its number
 abbrev pub mode_of : ℕ → Mode
 mode_of number = if number == 1 then Supervisor else User
 
+-- the subject that 39 bytes and windows tell
 abbrev pub subject_of : List ℕ → List WindowRec → SubjectRec
 subject_of b windows = record {
   f_s = byte b 0;
@@ -93,12 +103,14 @@ subject_checks levels are_modes windows subject =
     ∷ (field.Level, not (dominates (level_in levels subject.f_s) (level_in levels subject.f_c)))
     ∷ (field.Mode, not are_modes)
     ∷ (field.Entry, not (list_all (λ entry. entry % 2 == 0) subject.entries))
-    ∷ (field.Counts, nat_lt 32 windows)
+    ∷ (field.Counts, nat_lt windows_of_process windows)
     ∷ []
 
+-- those of 39 bytes
 abbrev pub subject_fails : List Level → List ℕ → List Check
 subject_fails levels b = subject_checks levels (is_mode (byte b 2) && is_mode (byte b 3)) (byte b 38) (subject_of b [])
 
+-- 39 bytes, and then so many windows as the last of them says
 unfoldable pub subject_at : List Level → List SubjectRec → Rest → Reads SubjectRec
 subject_at levels before rest = do
   b ← checked 39 (subject_fails levels) (λ b. b) rest

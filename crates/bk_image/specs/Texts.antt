@@ -3,6 +3,7 @@ use Rattle.std.specs.Prelude.{ℕ, List, codes}
 use Rattle.bk_image.specs.declared.fault.ImageField.{ImageField}
 use Rattle.bk_image.specs.declared.fault.ImageField.TheVariants as field
 
+-- the word for a field
 abbrev pub field_text : ImageField → List ℕ
 field_text field.Long = codes "long"
 field_text field.End = codes "end"

@@ -12,9 +12,11 @@ use Rattle.bk_image.specs.Parts.{Rest}
 use Rattle.bk_image.specs.Objects.{Objects}
 use Rattle.bk_image.specs.Header.{Header}
 
+-- what is left
 abbrev pub rest_of : rest_code.Rest → Rest
 rest_of rest = record { at = rest.at; bytes = rest.bytes.now }
 
+-- the header
 abbrev pub header_in : header_code.Header → Header
 header_in header = record {
   turns = header.turns;

@@ -44,6 +44,7 @@ counts_fit image =
     && list_all windows_fit image.subjects
     && list_all object_fits image.objects
 
+-- the bytes of an image, or the first fault
 unfoldable pub written : Image → Result (List ℕ) ImageFault
 written image = if counts_fit image then (image_of (spelling image) >>= λ i. Ok (spelling image)) else fault 0 field.Counts
 
@@ -53,6 +54,7 @@ written image = if counts_fit image then (image_of (spelling image) >>= λ i. Ok
 abbrev pub LevelFits : Level → Type 0
 LevelFits level = categories_of (mask_of level.categories) ≡ level.categories
 
+-- a window shows a path
 abbrev pub WindowFits : WindowRec → Type 0
 WindowFits window = IsPath window.path
 
@@ -67,13 +69,16 @@ pub record RowFits (row : List Modes) : Type 0 where
   pub whole : length row ≡ 32
   pub sets : All (λ modes. modes.0 < 16) row
 
+-- an object has a path and a whole row
 pub record ObjectFits (o : ObjectRec) : Type 0 where
   pub path : IsPath o.path
   pub row : RowFits o.facts.row
 
+-- a hold is of a path
 abbrev pub HoldFits : Hold → Type 0
 HoldFits hold = IsPath hold.path
 
+-- all parts of the image have it
 pub record Fits (image : Image) : Type 0 where
   pub levels : All LevelFits image.levels
   pub subjects : All SubjectFits image.subjects

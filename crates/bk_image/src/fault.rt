@@ -3,8 +3,7 @@
 ghost use Rattle.std.specs.Prelude.{◌≡◌};
 ghost use Rattle.bk_image.specs.Texts.{field_text};
 
-use bk_base::NoMemory;
-use std::alloc::{AllocError, AllocFailed};
+use bk_base::Stop;
 
 /// What is wrong with a part of an image, by the field that is at fault.
 #[derive(Clone, Copy, PartialEq, Eq, Debug)]
@@ -104,48 +103,14 @@ pub struct ImageFault {
 }
 
 /// Why no image was read or written: a fault of its bytes, or want of memory.
-#[derive(Clone, Copy, PartialEq, Eq, Debug)]
-pub enum ImageStop {
-    Bad(ImageFault),
-    NoMemory,
-}
+pub type ImageStop = Stop<ImageFault>;
 
 impl From<ImageFault> for ImageStop {
-    ghost use Rattle.bk_image.specs.declared.fault.ImageStop.TheVariants.{Bad};
+    ghost use Rattle.bk_base.specs.declared.stop.Stop.TheVariants.{Bad};
 
     ghost from_gives = { λ fault stop. stop ≡ Bad fault };
 
     fn from(fault: ImageFault) -> ImageStop {
-        ImageStop::Bad(fault)
-    }
-}
-
-impl From<NoMemory> for ImageStop {
-    ghost use Rattle.bk_image.specs.declared.fault.ImageStop.TheVariants.{NoMemory};
-
-    ghost from_gives = { λ _ stop. stop ≡ NoMemory };
-
-    fn from(_: NoMemory) -> ImageStop {
-        ImageStop::NoMemory
-    }
-}
-
-impl From<AllocError> for ImageStop {
-    ghost use Rattle.bk_image.specs.declared.fault.ImageStop.TheVariants.{NoMemory};
-
-    ghost from_gives = { λ _ stop. stop ≡ NoMemory };
-
-    fn from(_: AllocError) -> ImageStop {
-        ImageStop::NoMemory
-    }
-}
-
-impl<T: Drop> From<AllocFailed<T>> for ImageStop {
-    ghost use Rattle.bk_image.specs.declared.fault.ImageStop.TheVariants.{NoMemory};
-
-    ghost from_gives = { λ _ stop. stop ≡ NoMemory };
-
-    fn from(_: AllocFailed<T>) -> ImageStop {
-        ImageStop::NoMemory
+        Stop::Bad(fault)
     }
 }

@@ -1,13 +1,18 @@
 // The header: each of its fields is a part.
 
 ghost use Rattle.std.specs.Prelude.{◌≤◌, IfOk};
+ghost use Rattle.bk_level.specs.Levels.{most_levels};
+ghost use Rattle.bk_object.specs.Rows.{most_subjects};
 ghost use Rattle.bk_image.specs.Header.{byte_at, word_at, magic_at, header_at};
 ghost use Rattle.bk_image.specs.Parts.{Gives};
 ghost use Rattle.bk_image.specs.Views.{rest_of, header_in};
 
 use crate::fault::{ImageField, ImageStop};
+use crate::limits::{MOST_HOLDS, MOST_LINES, MOST_OBJECTS, MOST_PLACES, MOST_TURNS};
 use crate::part::{bad, part, word};
 use crate::rest::Rest;
+use bk_level::MOST_LEVELS;
+use bk_object::MOST_SUBJECTS;
 
 /// The turns of a slot, and how many parts of each kind there are.
 #[derive(Clone, Copy)]
@@ -66,19 +71,19 @@ fn magic(rest: &mut Rest) -> Result<(), ImageStop>
 /// The 16 bytes of the header.
 #[tactic(auto, unfolding(crate::specs::Header::header_at))]
 pub(crate) fn read_header(rest: &mut Rest) -> Result<Header, ImageStop>
-    ensures levels { IfOk result (λ header. header.levels ≤ 64) }
-    ensures subjects { IfOk result (λ header. header.subjects ≤ 32) }
+    ensures levels { IfOk result (λ header. header.levels ≤ most_levels) }
+    ensures subjects { IfOk result (λ header. header.subjects ≤ most_subjects) }
     ensures exact { Gives (λ header. (header_in header, rest_of rest.new)) result (header_at (rest_of rest.old)) }
 {
     magic(rest)?;
     word_of(rest, ImageField::Version, 1, 1)?;
-    let turns = word_of(rest, ImageField::Turns, 1, 4096)?;
-    let levels = byte_of(rest, ImageField::Counts, 1, 64)?;
-    let subjects = byte_of(rest, ImageField::Counts, 1, 32)?;
-    let lines = byte_of(rest, ImageField::Counts, 0, 16)?;
-    let schedule = byte_of(rest, ImageField::Counts, 1, 64)?;
-    let objects = word_of(rest, ImageField::Counts, 1, 3904)?;
-    let holds = word_of(rest, ImageField::Counts, 0, 65535)?;
+    let turns = word_of(rest, ImageField::Turns, 1, MOST_TURNS)?;
+    let levels = byte_of(rest, ImageField::Counts, 1, MOST_LEVELS as u8)?;
+    let subjects = byte_of(rest, ImageField::Counts, 1, MOST_SUBJECTS)?;
+    let lines = byte_of(rest, ImageField::Counts, 0, MOST_LINES)?;
+    let schedule = byte_of(rest, ImageField::Counts, 1, MOST_PLACES)?;
+    let objects = word_of(rest, ImageField::Counts, 1, MOST_OBJECTS)?;
+    let holds = word_of(rest, ImageField::Counts, 0, MOST_HOLDS)?;
     Ok(Header {
         turns,
         levels,

@@ -3,7 +3,7 @@
 ghost use Rattle.std.specs.Prelude.{◌≡◌, ◌≤◌, [], length, unwrap_or};
 ghost use Rattle.bk_object.specs.Kinds.{kind_modes};
 ghost use Rattle.bk_object.specs.Modes as modes_model;
-ghost use Rattle.bk_object.specs.Rows.{in_row};
+ghost use Rattle.bk_object.specs.Rows.{in_row, most_subjects};
 ghost use Rattle.bk_level.specs.Levels as levels_model;
 ghost use Rattle.bk_quota.specs.Charges.{passes};
 ghost use Rattle.bk_image.specs.Numbers as numbers;
@@ -81,39 +81,42 @@ fn current(levels: &LevelTable, subjects: &[SubjectRec], n: u8) -> Level
 fn reads(modes: Modes) -> bool
     ensures { result ≡ modes_model.has modes modes_model.Read }
 {
-    modes.bits() % 2 == 1
+    Modes::R.is_within(modes)
 }
 
 fn executes(modes: Modes) -> bool
     ensures { result ≡ modes_model.has modes modes_model.Execute }
 {
-    modes.bits() / 2 % 2 == 1
+    Modes::E.is_within(modes)
 }
 
 fn writes(modes: Modes) -> bool
     ensures { result ≡ modes_model.has modes modes_model.Write }
 {
-    modes.bits() / 4 % 2 == 1
+    Modes::W.is_within(modes)
 }
 
 fn appends(modes: Modes) -> bool
     ensures { result ≡ modes_model.has modes modes_model.Append }
 {
-    modes.bits() / 8 % 2 == 1
+    Modes::A.is_within(modes)
 }
 
 // The simple security condition (MTR-2997).
 fn fits_ss(modes: Modes, greatest: Level, object: Level) -> bool
-    ensures { result ≡ model.fits_ss modes greatest object }
+    ensures simple { result ≡ model.fits_ss modes greatest object }
 {
-    !(reads(modes) || executes(modes) || writes(modes)) || greatest.dominates(object)
+    let below = greatest.dominates(object);
+    (!reads(modes) || below) && (!executes(modes) || below) && (!writes(modes) || below)
 }
 
 // The *-property (MTR-2997).
 fn fits_star(modes: Modes, current: Level, object: Level) -> bool
-    ensures { result ≡ model.fits_star modes current object }
+    ensures star { result ≡ model.fits_star modes current object }
 {
-    (!(reads(modes) || executes(modes)) || current.dominates(object))
+    let below = current.dominates(object);
+    (!reads(modes) || below)
+        && (!executes(modes) || below)
         && (!writes(modes) || object == current)
         && (!appends(modes) || object.dominates(current))
 }
@@ -140,8 +143,8 @@ fn check(
     hold: Hold,
 ) -> Result<(), ImageStop>
     requires ascending { IsAscending objects.now }
-    requires few { length subjects.now ≤ 32 }
-    ensures { Gives (λ x. tt) result (first_failing at (model.hold_checks levels.now subjects.now (objects_in objects.now) before.now is_path hold)) }
+    requires few { length subjects.now ≤ most_subjects }
+    ensures exact { Gives (λ x. tt) result (first_failing at (model.hold_checks levels.now subjects.now (objects_in objects.now) before.now is_path hold)) }
 {
     if hold.subject as usize >= subjects.len() {
         return Err(bad(at, ImageField::Subject));
@@ -187,7 +190,7 @@ fn next(
     rest: &mut Rest,
 ) -> Result<Hold, ImageStop>
     requires ascending { IsAscending objects.now }
-    requires few { length subjects.now ≤ 32 }
+    requires few { length subjects.now ≤ most_subjects }
     ensures { Gives (λ hold. (hold, rest_of rest.new)) result (model.hold_at levels.now subjects.now (objects_in objects.now) before.now (rest_of rest.old)) }
 {
     let at = rest.at;
@@ -215,7 +218,7 @@ pub(crate) fn read_holds(
     rest: &mut Rest,
 ) -> Result<Vec<Hold>, ImageStop>
     requires ascending { IsAscending objects.now }
-    requires few { length subjects.now ≤ 32 }
+    requires few { length subjects.now ≤ most_subjects }
     ensures { Gives (λ v. (v.items, rest_of rest.new)) result (each_of (model.hold_at levels.now subjects.now (objects_in objects.now)) count [] (rest_of rest.old)) }
 {
     let mut holds = Vec::new(alloc);

@@ -1,9 +1,8 @@
 // Levels: each stands once.
 
 ghost use Rattle.std.specs.Prelude.{◌≡◌, ◌<◌, ◌≤◌, [], ◌∷◌, ◌++◌, false, length, IfOk};
-ghost use Rattle.std.specs.List.{list_any};
 ghost use Rattle.bk_level.specs.Levels as levels_model;
-ghost use Rattle.bk_level.specs.Levels.{is_same_level};
+ghost use Rattle.bk_level.specs.Levels.{has_level, most_levels};
 ghost use Rattle.bk_image.specs.Parts.{Gives, each_of};
 ghost use Rattle.bk_image.specs.Subjects.{level_at};
 ghost use Rattle.bk_image.specs.Views.{rest_of};
@@ -32,10 +31,10 @@ pub(crate) fn level_at(levels: &LevelTable, n: u8) -> Level
 
 // Whether the level stands in the table.
 fn has_level(levels: &LevelTable, level: Level) -> bool
-    ensures { result ≡ list_any (is_same_level level) levels.now }
+    ensures { result ≡ has_level levels.now level }
 {
     for n in 0..levels.len() {
-        if level == level_at(levels, n) {
+        if level_at(levels, n) == level {
             return true;
         }
     }
@@ -44,8 +43,8 @@ fn has_level(levels: &LevelTable, level: Level) -> bool
 
 // One more level, which doesn't stand in the table yet.
 fn add_level(levels: &mut LevelTable, level: Level)
-    requires few { length levels.old < 64 }
-    requires new { list_any (is_same_level level) levels.old ≡ false }
+    requires few { length levels.old < most_levels }
+    requires new { has_level levels.old level ≡ false }
     ensures { levels.new ≡ levels.old ++ level ∷ [] }
 {
     let _added = levels.push(level);
@@ -54,7 +53,7 @@ fn add_level(levels: &mut LevelTable, level: Level)
 #[tactic(auto, unfolding(crate::specs::Subjects::level_at))]
 fn next(before: &LevelTable, rest: &mut Rest) -> Result<Level, ImageStop>
     ensures exact { Gives (λ level. (level, rest_of rest.new)) result (level_at before.now (rest_of rest.old)) }
-    ensures new { IfOk result (λ level. list_any (is_same_level level) before.now ≡ false) }
+    ensures new { IfOk result (λ level. has_level before.now level ≡ false) }
 {
     let at = rest.at;
     let bytes = part(rest, 4)?;
@@ -73,7 +72,7 @@ fn next(before: &LevelTable, rest: &mut Rest) -> Result<Level, ImageStop>
 
 /// So many levels.
 pub(crate) fn read_levels(count: u8, rest: &mut Rest) -> Result<LevelTable, ImageStop>
-    requires { count ≤ 64 }
+    requires { count ≤ most_levels }
     ensures { Gives (λ levels. (levels, rest_of rest.new)) result (each_of level_at count [] (rest_of rest.old)) }
 {
     let mut levels = LevelTable::new();

@@ -7,7 +7,9 @@ ghost use Rattle.bk_object.specs.Kinds as kinds;
 ghost use Rattle.bk_path.specs.Paths as paths;
 ghost use Rattle.bk_quota.specs.Charges.{level_in};
 ghost use Rattle.bk_state.specs.Start as start;
+ghost use Rattle.bk_object.specs.Rows.{most_subjects};
 ghost use Rattle.bk_image.specs.Numbers as numbers;
+ghost use Rattle.bk_base.specs.declared.stop.Stop.TheVariants as stop;
 ghost use Rattle.bk_image.specs.Parts.{Gives, each_of, first_failing, last};
 ghost use Rattle.bk_image.specs.Objects as model;
 ghost use Rattle.bk_image.specs.Views.{rest_of, IsAscending};
@@ -86,7 +88,7 @@ pub(crate) fn is_directory(kind: Kind) -> bool
 
 // The path stands above that of the last object; the first is root.
 fn follows(before: &[ObjectRec], path: Path) -> bool
-    ensures { result ≡ model.path_follows (last before.now) path }
+    ensures order { result ≡ model.path_follows (last before.now) path }
 {
     match before.last() {
         None => is_root(path),
@@ -189,7 +191,7 @@ fn room(facts: &Facts) -> u16
 // The words of the bytes, of which there are two for each.
 fn words_of(alloc: Global, bytes: &[u8], count: u16) -> Result<Vec<u16>, ImageStop>
     requires { length bytes.now ≡ 2 * count }
-    ensures words { MatchResult result (λ v. v.items ≡ numbers.words_of bytes.now) (λ e. e ≡ ImageStop.NoMemory) }
+    ensures words { MatchResult result (λ v. v.items ≡ numbers.words_of bytes.now) (λ e. e ≡ stop.NoMemory) }
     ensures len { IfOk result (λ v. length v.items ≡ count) }
 {
     let mut words = Vec::new(alloc);
@@ -219,7 +221,7 @@ fn check(
     bytes: &[u8],
 ) -> Result<Path, ImageStop>
     requires whole { length bytes.now ≡ 28 }
-    requires subjects { subjects ≤ 32 }
+    requires subjects { subjects ≤ most_subjects }
     requires ascending { IsAscending before.now }
     ensures exact { Gives (λ x. tt) result (first_failing at (model.object_fails levels.now subjects lines before.now bytes.now)) }
     ensures path { IfOk result (λ path. path ≡ numbers.path_at bytes.now 0) }
@@ -245,7 +247,7 @@ fn check_at(
     path: Path,
 ) -> Result<(), ImageStop>
     requires whole { length bytes.now ≡ 28 }
-    requires subjects { subjects ≤ 32 }
+    requires subjects { subjects ≤ most_subjects }
     requires ascending { IsAscending before.now }
     requires path { numbers.path_in bytes.now 0 ≡ Some path }
     ensures exact { Gives (λ x. tt) result (first_failing at (model.object_fails levels.now subjects lines before.now bytes.now)) }
@@ -295,7 +297,7 @@ fn next(
     before: &[ObjectRec],
     rest: &mut Rest,
 ) -> Result<ObjectRec, ImageStop>
-    requires subjects { subjects ≤ 32 }
+    requires subjects { subjects ≤ most_subjects }
     requires ascending { IsAscending before.now }
     ensures place { IfOk result (λ o. rest.new.at ≡ rest.old.at + model.size o) }
     ensures follows { IfOk result (λ o. model.path_follows (last before.now) o.path ≡ true) }
@@ -335,7 +337,7 @@ pub(crate) fn read_objects(
     count: u16,
     rest: &mut Rest,
 ) -> Result<Vec<ObjectRec>, ImageStop>
-    requires { subjects ≤ 32 }
+    requires { subjects ≤ most_subjects }
     ensures place { IfOk result (λ v. rest.new.at ≡ rest.old.at + sum_by model.size v.items) }
     ensures ascending { IfOk result (λ v. IsAscending v.items) }
     ensures few { IfOk result (λ v. length v.items ≤ 65535) }

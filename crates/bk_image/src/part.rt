@@ -2,32 +2,31 @@
 
 ghost use Rattle.std.specs.Prelude.{◌≡◌, ◌+◌, ◌<◌, ◌≤◌, length, IfOk};
 ghost use Rattle.bk_image.specs.Numbers as numbers;
-ghost use Rattle.bk_image.specs.Parts.{Gives, part};
+ghost use Rattle.bk_base.specs.declared.stop.Stop.TheVariants.{Bad};
+ghost use Rattle.bk_image.specs.Parts.{fault_at, Gives, part};
 ghost use Rattle.bk_image.specs.Views.{rest_of};
 
 use crate::fault::{ImageFault, ImageField, ImageStop};
+use crate::limits::MOST_BYTES;
 use crate::rest::Rest;
 use bk_path::Path;
 use byteorder::{ByteOrder, LittleEndian};
 
-/// The most bytes that an image has.
-const LIMIT: u32 = 524_288;
-
 /// A fault of the field, told of the place.
 pub(crate) fn bad(at: u32, field: ImageField) -> ImageStop
-    ensures { result ≡ ImageStop.Bad (record { at = at; field = field }) }
+    ensures { result ≡ Bad (fault_at at field) }
 {
     ImageStop::Bad(ImageFault { at, field })
 }
 
 /// The next n bytes, which are then taken.
-#[tactic(auto, unfolding(crate::specs::Parts::part))]
+#[tactic(auto, unfolding(bk_base::specs::Parts::part))]
 pub(crate) fn part<'a>(rest: &mut Rest<'a>, n: u32) -> Result<&'a [u8], ImageStop>
     ensures exact { Gives (λ b. (b.now, rest_of rest.new)) result (part n (rest_of rest.old)) }
     ensures whole { IfOk result (λ b. length b.now ≡ n) }
     ensures place { IfOk result (λ b. rest.new.at ≡ rest.old.at + n) }
 {
-    if n > LIMIT || rest.at > LIMIT - n {
+    if n > MOST_BYTES || rest.at > MOST_BYTES - n {
         return Err(bad(rest.at, ImageField::Long));
     }
     if rest.bytes.len() < n as usize {

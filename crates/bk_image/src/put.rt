@@ -5,7 +5,8 @@ ghost use Rattle.std.specs.List.{range_with_len, list_all};
 ghost use Rattle.bk_object.specs.Kinds.{kind_number};
 ghost use Rattle.bk_object.specs.Rows.{in_row};
 ghost use Rattle.bk_path.specs.Paths.{IsPath};
-ghost use Rattle.bk_image.specs.Spelling.{word_bytes, words_bytes, path_bytes, level_bytes, mode_number, window_bytes, subject_bytes, blocks_byte, kind_bytes, row_byte, row_bytes, object_bytes, hold_bytes};
+ghost use Rattle.bk_image.specs.Spelling.{word_bytes, words_bytes, path_bytes, level_bytes, mode_number, window_bytes, subject_bytes, blocks_byte, kind_bytes};
+ghost use Rattle.bk_image.specs.Spelling.{row_byte, row_bytes, object_bytes, hold_bytes};
 ghost use Rattle.bk_image.specs.Writing.{windows_fit, object_fits, LevelFits, WindowFits, SubjectFits, RowFits, ObjectFits, HoldFits};
 
 use bitflags::Flags;

@@ -3,18 +3,19 @@
 ghost use Rattle.std.specs.Prelude.{◌≡◌, ◌+◌, ◌*◌, ◌≤◌, ◌==◌, not, length, map, sum_by, MatchResult};
 ghost use Rattle.std.specs.List.{count_by};
 ghost use Rattle.bk_object.specs.Kinds as kinds;
-ghost use Rattle.bk_quota.specs.Charges as charges;
+ghost use Rattle.bk_base.specs.declared.stop.Stop.TheVariants as stop;
+ghost use Rattle.bk_image.specs.Limits.{most_bytes};
 ghost use Rattle.bk_image.specs.Parts.{Gives};
 ghost use Rattle.bk_image.specs.Objects as model;
 ghost use Rattle.bk_image.specs.Views.{IsAscending, first_of, part_of, share_at};
 
 use crate::fault::{ImageField, ImageStop};
-use crate::lookup::{above, facts_at, is_root};
-use crate::object::{has_cell, is_directory, level_of};
+use crate::lookup::ByPath;
+use crate::object::{has_cell, level_of};
 use crate::part::bad;
 use bk_object::{Facts, Kind};
 use bk_path::Path;
-use bk_quota::charge_of;
+use bk_quota::{charge_of, governing};
 use bk_state::ObjectRec;
 use std::alloc::Global;
 
@@ -23,48 +24,6 @@ use std::alloc::Global;
 pub(crate) struct Share {
     pub(crate) cell: Path,
     pub(crate) charge: u16,
-}
-
-// Whether the object at the path has another level.
-fn has_other_level(objects: &[ObjectRec], path: Path, level: u8) -> bool
-    requires { IsAscending objects.now }
-    ensures { result ≡ charges.passes (λ above. not (above.level == level)) (model.facts_at (model.objects_in objects.now) path) }
-{
-    match facts_at(objects, path) {
-        None => false,
-        Some(facts) => facts.level != level,
-    }
-}
-
-// Whether a directory of another level than its parent's is at the path.
-fn is_upgraded(objects: &[ObjectRec], path: Path) -> bool
-    requires { IsAscending objects.now }
-    ensures { result ≡ charges.is_upgraded_in (λ object. object.facts) (model.objects_in objects.now) path }
-{
-    if is_root(path) {
-        return false;
-    }
-    match facts_at(objects, path) {
-        None => false,
-        Some(facts) => {
-            is_directory(facts.kind) && has_other_level(objects, above(path), facts.level)
-        }
-    }
-}
-
-// The nearest of a directory and its ancestors that has a cell.
-fn governing(objects: &[ObjectRec], path: Path) -> Path
-    requires { IsAscending objects.now }
-    ensures { result ≡ charges.governing_in (λ object. object.facts) (model.objects_in objects.now) path }
-{
-    let mut nearest = path;
-    for _ in 0..path.depth() {
-        if is_upgraded(objects, nearest) {
-            return nearest;
-        }
-        nearest = above(nearest);
-    }
-    nearest
 }
 
 // The share of an object with that path and those facts.
@@ -78,7 +37,7 @@ fn share_at(objects: &[ObjectRec], path: Path, facts: &Facts) -> Share
             charge: 0,
         },
         Some(above) => Share {
-            cell: governing(objects, above),
+            cell: governing(&ByPath { objects }, above),
             charge: charge_of(facts, level_of(objects, above)),
         },
     }
@@ -87,7 +46,7 @@ fn share_at(objects: &[ObjectRec], path: Path, facts: &Facts) -> Share
 // The shares of all objects.
 fn shares_of(alloc: Global, objects: &[ObjectRec]) -> Result<Vec<Share>, ImageStop>
     requires { IsAscending objects.now }
-    ensures { MatchResult result (λ v. v.items ≡ map (λ o. share_at (model.objects_in objects.now) o.path o.facts) objects.now) (λ e. e ≡ ImageStop.NoMemory) }
+    ensures { MatchResult result (λ v. v.items ≡ map (λ o. share_at (model.objects_in objects.now) o.path o.facts) objects.now) (λ e. e ≡ stop.NoMemory) }
 {
     let mut shares = Vec::new(alloc);
     for object in objects {
@@ -136,7 +95,7 @@ fn check_quotas(objects: &[ObjectRec], shares: &[Share], start: u32) -> Result<(
     requires ascending { IsAscending objects.now }
     requires shares { shares.now ≡ map (λ o. share_at (model.objects_in objects.now) o.path o.facts) objects.now }
     requires few { length shares.now ≤ 65535 }
-    requires fits { start + sum_by model.size objects.now ≤ 524288 }
+    requires fits { start + sum_by model.size objects.now ≤ most_bytes }
     ensures { Gives (λ x. tt) result (model.quotas_at (model.objects_in objects.now) objects.now start) }
 {
     let mut at = start;
@@ -183,7 +142,7 @@ pub(crate) fn check_objects(
 ) -> Result<(), ImageStop>
     requires ascending { IsAscending objects.now }
     requires few { length objects.now ≤ 65535 }
-    requires fits { start + sum_by model.size objects.now ≤ 524288 }
+    requires fits { start + sum_by model.size objects.now ≤ most_bytes }
     ensures { Gives (λ x. tt) result (model.after_objects lines objects.now start) }
 {
     let shares = shares_of(alloc, objects)?;

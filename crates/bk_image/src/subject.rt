@@ -14,6 +14,7 @@ use crate::part::{bad, part, word};
 use crate::rest::Rest;
 use crate::window::read_windows;
 use bk_level::LevelTable;
+use bk_process::WINDOWS;
 use bk_space::Mode;
 use bk_state::{SubjectRec, WindowRec, Windows};
 use std::alloc::Global;
@@ -96,7 +97,7 @@ fn check(at: u32, levels: &LevelTable, bytes: &[u8]) -> Result<(), ImageStop>
     if !are_even(&entries(bytes)) {
         return Err(bad(at, ImageField::Entry));
     }
-    if bytes[38] > 32 {
+    if bytes[38] > WINDOWS {
         return Err(bad(at, ImageField::Counts));
     }
     Ok(())

@@ -1,56 +1,14 @@
 // Images that were worked out by hand from the format: the sample, its spoilt copies, and one that is too long.
 
 use crate::{Image, ImageFault, ImageField, ImageStop, read_image, write_image};
-use bitflags::Flags;
 use bk_base::Bytes;
-use bk_object::Kind;
-use bk_space::Mode;
-use bk_state::{Hold, ObjectRec, SubjectRec};
+use bk_fixture::{SAMPLE, sample_bytes, sample_image};
 use std::alloc::{AllocError, Global};
 use std::test::Fail;
 
-/// The bytes of the sample before the 14 words of its program: the header, the levels, the schedule, the subjects, root and
-/// the record of the segment `/0`.
-const FRONT: [u8; 170] = [
-    66, 76, 80, 75, 1, 0, 32, 0, 2, 2, 2, 2, 4, 0, 6, 0, 0, 0, 0, 0, 1, 0, 0, 0, 0, 1, 0, 0, 3, 3,
-    0, 0, 0, 0, 0, 0, 0, 0, 0, 0, 0, 17, 0, 0, 0, 0, 0, 0, 0, 0, 0, 0, 0, 0, 0, 0, 0, 0, 0, 0, 0,
-    0, 0, 0, 1, 16, 0, 16, 0, 0, 1, 1, 3, 3, 0, 0, 0, 0, 0, 0, 0, 0, 0, 0, 0, 18, 0, 0, 0, 0, 0, 0,
-    0, 0, 0, 0, 0, 0, 0, 0, 0, 0, 0, 0, 0, 0, 0, 0, 1, 16, 0, 16, 0, 0, 0, 0, 0, 0, 0, 0, 0, 0, 16,
-    0, 17, 0, 0, 0, 0, 0, 0, 0, 0, 0, 0, 0, 0, 0, 0, 0, 0, 0, 0, 16, 0, 0, 1, 1, 0, 0, 0, 0, 51, 0,
-    0, 0, 0, 0, 0, 0, 0, 0, 0, 0, 0, 0, 0, 0, 14, 0,
-];
-
-/// The bytes of the sample after its program: the records of the two lines, and who holds what.
-const BACK: [u8; 92] = [
-    0, 17, 0, 0, 3, 0, 0, 0, 0, 0, 4, 0, 0, 0, 0, 0, 0, 0, 0, 0, 0, 0, 0, 0, 0, 0, 0, 0, 0, 18, 0,
-    0, 3, 1, 1, 0, 0, 0, 64, 0, 0, 0, 0, 0, 0, 0, 0, 0, 0, 0, 0, 0, 0, 0, 0, 0, 0, 1, 0, 0, 0, 0,
-    0, 2, 0, 16, 0, 0, 0, 4, 0, 17, 0, 0, 1, 1, 0, 0, 0, 0, 1, 2, 0, 16, 0, 0, 1, 4, 0, 18, 0, 0,
-];
-
-/// The 14 words of the sample's program, low bytes first.
-const ECHO: [u8; 28] = [
-    0x41, 0x11, 0xc2, 0x15, 0x00, 0x00, 0x10, 0x88, 0xc0, 0x0b, 0x02, 0x03, 0x14, 0x88, 0xf8, 0x01,
-    0x83, 0x10, 0x41, 0x11, 0xc2, 0x15, 0x00, 0x00, 0x0f, 0x88, 0xf2, 0x01,
-];
-
-/// The same as words.
-const WORDS: [u16; 14] = [
-    0o010501, 0o012702, 0o000000, 0o104020, 0o005700, 0o001402, 0o104024, 0o000770, 0o010203,
-    0o010501, 0o012702, 0o000000, 0o104017, 0o000762,
-];
-
-/// The 290 bytes of the sample: a header of 16, levels at 16 and 20, a schedule at 24, subjects at 26 and 70, objects at
-/// 114 (`/`), 142 (`/0`), 198 (`/1`) and 226 (`/2`), holds from 254 on.
-fn sample(alloc: Global) -> Result<Vec<u8>, AllocError> {
-    let mut bytes = FRONT.to_vec(alloc)?;
-    bytes.extend_from_slice(&ECHO)?;
-    bytes.extend_from_slice(&BACK)?;
-    Ok(bytes)
-}
-
 /// The sample with other bytes at some places.
 fn spoilt(alloc: Global, changes: &[(usize, u8)]) -> Result<Vec<u8>, AllocError> {
-    let mut bytes = sample(alloc)?;
+    let mut bytes = SAMPLE.to_vec(alloc)?;
     for (at, byte) in changes {
         if *at < bytes.len() {
             bytes[*at] = *byte;
@@ -67,68 +25,33 @@ fn fault_of(alloc: Global, bytes: &[u8]) -> Option<(u32, &'static str)> {
     }
 }
 
-fn are_subjects(subjects: &[SubjectRec]) -> bool {
-    match subjects {
-        [first, second] => {
-            (first.f_s, first.f_c, first.mode) == (0, 0, Mode::User)
-                && (second.f_s, second.f_c, second.mode) == (1, 1, Mode::User)
-                && second.regs == [0, 0, 0, 0, 0, 0o011000]
-        }
-        _ => false,
-    }
+fn stop(at: u32, field: ImageField) -> Option<ImageStop> {
+    Some(ImageStop::Bad(ImageFault { at, field }))
 }
 
-fn are_objects(objects: &[ObjectRec]) -> bool {
-    match objects {
-        [root, segment, _, line] => {
-            root.path.depth() == 0
-                && (root.facts.kind, root.facts.quota) == (Kind::Directory, 16)
-                && (segment.facts.kind, segment.facts.blocks) == (Kind::Segment, 1)
-                && segment.facts.row.get(1).bits() == 3
-                && segment.words.as_slice() == WORDS.as_slice()
-                && (line.facts.kind, line.facts.level) == (Kind::Line(1), 1)
-        }
-        _ => false,
-    }
-}
-
-fn are_holds(holds: &[Hold]) -> bool {
-    match holds {
-        [.., last] => {
-            holds.len() == 6
-                && (last.subject, last.modes.bits(), last.path.pack()) == (1, 4, (0o011000, 0))
-        }
-        [] => false,
-    }
-}
-
+// The sample's value is spelt by the sample's bytes, and these are read as it, whatever follows. With no turns its bytes are
+// no image; 256 places don't fit into their count.
 #[test]
-fn reads_the_sample_whatever_follows(rt: HostRuntime) -> Result<(), Fail> {
-    let alloc = rt.alloc();
-    let mut bytes = sample(alloc)?;
-    bytes.extend_from_slice(b"END 0\n")?;
-    let (image, length) = read_image(alloc, &bytes)?;
+fn spells_and_reads_the_sample(rt: HostRuntime) -> Result<(), Fail> {
+    let image = sample_image(rt.alloc()).ok_or("memory")?;
+    let written = write_image(rt.alloc(), &image).ok().ok_or("not written")?;
+    assert!(rt; written.as_slice() == SAMPLE.as_slice());
+    let bytes = sample_bytes(rt.alloc(), b"END 0\n")?;
+    let (image, length) = read_image(rt.alloc(), &bytes).ok().ok_or("no image")?;
+    assert_eq!(rt; length, 290);
+    let written = write_image(rt.alloc(), &image).ok().ok_or("not written")?;
+    assert!(rt; written.as_slice() == SAMPLE.as_slice());
+    let image = Image { turns: 0, ..image };
     assert_eq!(rt;
-        (length, image.turns, image.lines, image.levels.len()),
-        (290, 32, 2, 2)
+        write_image(rt.alloc(), &image).err(),
+        stop(6, ImageField::Turns)
     );
-    assert!(rt;
-        image.schedule.as_slice() == [0, 1].as_slice() && are_subjects(image.subjects.as_slice())
+    let schedule = Bytes::from_vec(vec![in rt.alloc(); 0; 256]?);
+    let image = Image { schedule, ..image };
+    assert_eq!(rt;
+        write_image(rt.alloc(), &image).err(),
+        stop(0, ImageField::Counts)
     );
-    assert!(rt; are_objects(image.objects.as_slice()) && are_holds(image.holds.as_slice()));
-    Ok(())
-}
-
-// Each number of first bytes that is too small.
-#[test]
-fn ends_where_the_input_ends(rt: HostRuntime) -> Result<(), Fail> {
-    let alloc = rt.alloc();
-    let bytes = sample(alloc)?;
-    for k in 0..290u32 {
-        if let Some(front) = bytes.get(..k as usize) {
-            assert_eq!(rt; fault_of(alloc, front), Some((k, "end")));
-        }
-    }
     Ok(())
 }
 
@@ -308,30 +231,5 @@ fn refuses_what_is_too_long(rt: HostRuntime) -> Result<(), Fail> {
     }
     assert_eq!(rt; bytes.len(), 518_142);
     assert_eq!(rt; fault_of(alloc, &bytes), Some((518_142, "long")));
-    Ok(())
-}
-
-fn stop(at: u32, field: ImageField) -> Option<ImageStop> {
-    Some(ImageStop::Bad(ImageFault { at, field }))
-}
-
-// With no turns the sample's bytes are no image; 256 places don't fit into their count.
-#[test]
-fn writes_the_sample_as_it_was_read(rt: HostRuntime) -> Result<(), Fail> {
-    let bytes = sample(rt.alloc())?;
-    let (image, _) = read_image(rt.alloc(), &bytes).ok().ok_or("no image")?;
-    let written = write_image(rt.alloc(), &image).ok().ok_or("not written")?;
-    assert!(rt; written.as_slice() == bytes.as_slice());
-    let image = Image { turns: 0, ..image };
-    assert_eq!(rt;
-        write_image(rt.alloc(), &image).err(),
-        stop(6, ImageField::Turns)
-    );
-    let schedule = Bytes::from_vec(vec![in rt.alloc(); 0; 256]?);
-    let image = Image { schedule, ..image };
-    assert_eq!(rt;
-        write_image(rt.alloc(), &image).err(),
-        stop(0, ImageField::Counts)
-    );
     Ok(())
 }

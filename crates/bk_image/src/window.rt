@@ -8,6 +8,7 @@ ghost use Rattle.bk_image.specs.Views.{rest_of};
 use crate::fault::{ImageField, ImageStop};
 use crate::part::{bad, part, path_in};
 use crate::rest::Rest;
+use bk_process::WINDOWS;
 use bk_state::WindowRec;
 use std::alloc::Global;
 
@@ -28,7 +29,7 @@ fn next(before: &[WindowRec], rest: &mut Rest) -> Result<WindowRec, ImageStop>
     let at = rest.at;
     let bytes = part(rest, 5)?;
     let index = bytes[0];
-    if index > 31 || !follows(before, index) {
+    if index >= WINDOWS || !follows(before, index) {
         return Err(bad(at, ImageField::Window));
     }
     match path_in(bytes, 1) {

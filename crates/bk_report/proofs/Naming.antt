@@ -1,24 +1,12 @@
 -- Line records: which words name a line, and what is left after a line is cut off in front.
 use Rattle.std.proofs.Common.{◌≡◌, ◌≢◌, ℕ, zero, suc, ◌/◌, ◌^◌, ◌<◌, ◌≤◌, Bool, true, false, List, [], ◌∷◌, ◌++◌, refl, ◌∙◌, ap, arith, subst, nat_eq, decimal}
-use Rattle.std.specs.Prelude.{◌&&◌, ◌||◌, ◌==◌, bytes_eq}
+use Rattle.std.specs.Prelude.{◌&&◌, ◌==◌, bytes_eq}
 use Rattle.std.specs.List.{slice_split}
 use Rattle.std.proofs.Math.Nat.{div-eq_of_lt, pow-le-pow_right}
+use Rattle.std.proofs.lemmas.Bool.{and_left, or_from, or_left, or_right}
 use Rattle.std.proofs.lemmas.Bool.Decides.{nat_tests}
 use Rattle.bk_report.specs.Lines.{names_below, names_in, are_record, kept, kept_of, has_bit, line_records_of}
 use Rattle.bk_report.proofs.Splitting.{split_some}
-
-or_left : (a b : Bool) → a ≡ true → (a || b) ≡ true
-or_left a b e = rw e refl
-
-or_right : (a b : Bool) → b ≡ true → (a || b) ≡ true
-or_right true b e = refl
-or_right false b e = e
-
-or_none : (a b : Bool) → a ≡ false → b ≡ false → (a || b) ≡ false
-or_none a b e f = rw (e, f) refl
-
-no_bits : (b : Bool) (c : Bool) → b ≡ false → (b && c) ≡ false
-no_bits b c e = rw e refl
 
 -- what names a number below k names one below any m from k on
 names_up : (set : ℕ → Bool) (word : List ℕ) (k m : ℕ) → k ≤ m → names_below set word k ≡ true → names_below set word m ≡ true
@@ -55,8 +43,8 @@ names_high lines word small h (suc m) le = by (nat_eq 16 (suc m)) refl (names_hi
   by false e rest =
       let apart : 16 ≢ suc m = grind (arith, nat_tests, e) in
       let below : 16 ≤ m = omega (arith, apart, le) in
-      or_none (names_below (has_bit lines) word m) (has_bit lines m && bytes_eq word (decimal m)) (rest below)
-      (no_bits (has_bit lines m) (bytes_eq word (decimal m)) (no_high_bit lines m small below))
+      or_from (names_below (has_bit lines) word m) (has_bit lines m && bytes_eq word (decimal m)) (rest below)
+      (and_left (has_bit lines m) (bytes_eq word (decimal m)) (no_high_bit lines m small below))
 
 pub names_in-none : (lines n : ℕ) (word : List ℕ) → lines < 2 ^ 16 → n ≡ 16 → names_below (has_bit lines) word n ≡ false → names_in (has_bit lines) word ≡ false
 unfolding names_in

@@ -1,7 +1,9 @@
 -- Lines of items: they hold no LF, and their fields hold no space.
-use Rattle.std.proofs.Common.{◌≡◌, ◌≢◌, ℕ, zero, suc, ◌+◌, ◌/◌, ◌%◌, ◌^◌, ◌<◌, ◌≤◌, Bool, true, false, List, [], ◌∷◌, ◌++◌, refl, sym, ◌∙◌, ap, arith, append_assoc, codes, decimal, cond, nat_eq, nat_lt}
+use Rattle.std.proofs.Common.{◌≡◌, ◌≢◌, ℕ, zero, suc, ◌+◌, ◌/◌, ◌%◌, ◌^◌, ◌<◌, ◌≤◌, Bool, true, false, List, [], ◌∷◌, ◌++◌, refl, sym, ◌∙◌, ap, arith}
+use Rattle.std.proofs.Common.{append_assoc, codes, decimal, cond, nat_eq, nat_lt}
 use Rattle.std.specs.Prelude.{◌==◌, ◌&&◌, ◌||◌, bytes_eq}
 use Rattle.std.specs.List.{All, AllByRecursion, slice_split, flat_map, filter}
+use Rattle.std.proofs.Math.Bool.{and-false, and-true, or-false}
 use Rattle.std.proofs.lemmas.Bool.Decides.{nat_tests}
 use Rattle.std.proofs.lemmas.Fmt.{decimal_by_steps, decimal_injective}
 use Rattle.std.proofs.lemmas.List.{append-nil}
@@ -155,15 +157,6 @@ other_kind set kind (a ∷ b ∷ c ∷ []) e = refl
 other_kind set kind (a ∷ b ∷ c ∷ d ∷ []) e = rw e refl
 other_kind set kind (a ∷ b ∷ c ∷ d ∷ f ∷ more) e = refl
 
-and_true : (b : Bool) → (false || (b && true)) ≡ b
-and_true true = refl
-and_true false = refl
-
-or_and_false : (a b : Bool) → (a || (b && false)) ≡ a
-or_and_false true b = refl
-or_and_false false true = refl
-or_and_false false false = refl
-
 no_text : (m n : ℕ) → m < 2 ^ 64 → n < 2 ^ 64 → m ≢ n → bytes_eq (decimal m) (decimal n) ≡ false
 no_text m n a b other = by (bytes_eq (decimal m) (decimal n)) refl where
   by : (t : Bool) → bytes_eq (decimal m) (decimal n) ≡ t → bytes_eq (decimal m) (decimal n) ≡ false
@@ -180,12 +173,12 @@ names_below-decimal set line (suc k) small le = by (nat_eq line k) refl (names_b
       let before : nat_lt line k ≡ false = grind (arith, nat_tests, same) in
       let within : nat_lt line (suc k) ≡ true = grind (arith, nat_tests, same) in
       let eq : bytes_eq (decimal line) (decimal k) ≡ true = (bytes_eq-Decides (decimal line) (decimal k)).1 (ap decimal same) in
-      rw (rest, before, within, eq, ← same) (and_true (set line))
+      rw (rest, before, within, eq, ← same) (and-true (set line))
   by false e rest =
       let other : line ≢ k = grind (arith, nat_tests, e) in
       let same : nat_lt line (suc k) ≡ nat_lt line k = grind (arith, nat_tests, other) in
       let eq : bytes_eq (decimal line) (decimal k) ≡ false = no_text line k small (omega (arith, le)) other in
-      rw (rest, same, eq) (or_and_false (nat_lt line k && set line) (set k))
+      rw (rest, same, eq) (ap (λ b. (nat_lt line k && set line) || b) (and-false (set k)) ∙ or-false (nat_lt line k && set line))
 
 kept_body : (set : ℕ → Bool) (item : ReportItem) → IsNumbered item → are_record set (slice_split (λ b. b == 32) (body item)) ≡ is_byte_in set item
 unfolding names_in

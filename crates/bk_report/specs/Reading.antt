@@ -1,10 +1,12 @@
 -- An item that is read: guessed by the fields in front, printed again, and compared.
-use Rattle.std.specs.Prelude.{ℕ, zero, suc, ◌+◌, ◌-◌, ◌*◌, ◌%◌, ◌^◌, Bool, true, ◌&&◌, not, nat_lt, nat_le, nat_eq, ◌==◌, if◌then◌else◌, List, [], ◌∷◌, length, drop, slice_index, Option, Some, None}
+use Rattle.std.specs.Prelude.{ℕ, zero, suc, ◌+◌, ◌-◌, ◌*◌, ◌%◌, ◌^◌, Bool, true, ◌&&◌, not, nat_lt, nat_le, nat_eq, ◌==◌, if◌then◌else◌, List, [], ◌∷◌, length}
+use Rattle.std.specs.Prelude.{drop, slice_index, Option, Some, None}
 use Rattle.std.specs.List.{starts_with}
 use Rattle.bk_report.specs.declared.item.ReportItem.{ReportItem}
 use Rattle.bk_report.specs.declared.item.ReportItem.TheVariants.{Call, Fault, Byte, End}
 use Rattle.bk_report.specs.Text.{text_of}
 
+-- a decimal digit as a character
 abbrev pub is_digit : ℕ → Bool
 is_digit b = nat_le 48 b && nat_le b 57
 
@@ -34,6 +36,7 @@ call_with slot turn subject number words =
     let cause = front 10 0 answer.1 in
     Call (slot % 2 ^ 32) (turn % 2 ^ 16) (subject % 2 ^ 8) (number % 2 ^ 8) words.0 answer.0 (cause.0 % 2 ^ 8)
 
+-- a call: slot, turn, subject, the call's number, and the rest
 abbrev pub call_of : List ℕ → ReportItem
 call_of bytes =
     let slot = front 10 0 bytes in
@@ -42,6 +45,7 @@ call_of bytes =
     let number = front 8 0 subject.1 in
     call_with slot.0 turn.0 subject.0 number.0 (words_in 6 number.1)
 
+-- a fault: slot, turn, subject, cause, program counter, and whether it was reflected
 abbrev pub fault_of : List ℕ → ReportItem
 fault_of bytes =
     let slot = front 10 0 bytes in
@@ -51,6 +55,7 @@ fault_of bytes =
     let pc = front 8 0 cause.1 in
     Fault (slot.0 % 2 ^ 32) (turn.0 % 2 ^ 16) (subject.0 % 2 ^ 8) (cause.0 % 2 ^ 8) (pc.0 % 2 ^ 16) (slice_index pc.1 0 == 101)
 
+-- a byte: slot, turn, line, and the byte
 abbrev pub byte_of : List ℕ → ReportItem
 byte_of bytes =
     let slot = front 10 0 bytes in
@@ -59,6 +64,7 @@ byte_of bytes =
     let byte = front 8 0 line.1 in
     Byte (slot.0 % 2 ^ 32) (turn.0 % 2 ^ 16) (line.0 % 2 ^ 8) (byte.0 % 2 ^ 8)
 
+-- the totals: slots, turns, references and calls
 abbrev pub end_of : List ℕ → ReportItem
 end_of bytes =
     let slots = front 10 0 bytes in
@@ -86,5 +92,6 @@ abbrev pub checked : ReportItem → List ℕ → Option (ReportItem × ℕ)
 checked item bytes =
     if is_answered item && starts_with nat_eq bytes (text_of item) then Some (item, length (text_of item)) else None
 
+-- the item that stands in front, and the length of its line
 unfoldable pub read_of : List ℕ → Option (ReportItem × ℕ)
 read_of bytes = checked (guess_of bytes) bytes

@@ -1,3 +1,4 @@
+-- Items as text: the line of each kind of item, and what holds of an item that is printed.
 use Rattle.std.specs.Prelude.{◌≡◌, ℕ, ◌+◌, ◌/◌, ◌%◌, ◌<◌, ◌==◌, ◌↔◌, if◌then◌else◌, Bool, List, [], ◌∷◌, ◌++◌, ◌^◌, length, drop, flat_map, codes, decimal}
 use Rattle.std.specs.List.{AllByRecursion}
 use Rattle.bk_report.specs.declared.item.ReportItem.{ReportItem}

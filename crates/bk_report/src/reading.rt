@@ -172,7 +172,7 @@ fn guess(bytes: &[u8]) -> ReportItem
 }
 
 fn is_answered(item: &ReportItem) -> bool
-    ensures { result ≡ is_answered item.now }
+    ensures value { result ≡ is_answered item.now }
 {
     match *item {
         ReportItem::Call { answer, cause, .. } => {
@@ -189,7 +189,7 @@ fn is_answered(item: &ReportItem) -> bool
 /// The guessed item, where its line stands in front.
 #[tactic(auto, unfolding(crate::specs::Reading::read_of), using(crate::proofs::Found::answered_from_test))]
 fn read_checked(bytes: &[u8]) -> Option<(ReportItem, usize)>
-    ensures { result ≡ read_of bytes.now }
+    ensures exact { result ≡ read_of bytes.now }
 {
     let item = guess(bytes);
     if !is_answered(&item) {

@@ -15,7 +15,7 @@ fn is_number(word: &[u8], n: u8) -> bool
 
 fn has_bit(lines: u16, n: u8) -> bool
     requires { n < 16 }
-    ensures { result ≡ has_bit lines n }
+    ensures value { result ≡ has_bit lines n }
 {
     lines >> n & 1 == 1
 }

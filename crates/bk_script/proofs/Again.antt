@@ -1,5 +1,6 @@
 -- A script's text is read again as the script.
-use Rattle.std.proofs.Common.{◌≡◌, ℕ, ◌+◌, ◌*◌, ◌^◌, ◌<◌, ◌≤◌, Bool, true, false, List, [], ◌∷◌, ◌++◌, length, Option, Some, Result, Ok, refl, sym, ap, ◌∙◌, arith, decimal, subst, append_assoc, nat_lt, nat_le}
+use Rattle.std.proofs.Common.{◌≡◌, ℕ, ◌+◌, ◌*◌, ◌^◌, ◌<◌, ◌≤◌, Bool, true, false, List, [], ◌∷◌, ◌++◌, length, Option, Some, Result, Ok, refl, sym, ap, ◌∙◌}
+use Rattle.std.proofs.Common.{arith, decimal, subst, append_assoc, nat_lt, nat_le}
 use Rattle.std.specs.Prelude.{◌==◌}
 use Rattle.std.specs.List.{All, AllByRecursion, list_all, slice_split}
 use Rattle.std.proofs.lemmas.Bool.{and_parts}
@@ -8,11 +9,14 @@ use Rattle.std.proofs.lemmas.List.{append-nil}
 use Rattle.std.proofs.lemmas.List.Elements.{All-nil, All-cons, All-append, recursion_from_All}
 use Rattle.std.proofs.lemmas.List.Splits.{slice_split_at, slice_split_none}
 use Rattle.bk_system.specs.declared.TypedAt.{TypedAt}
+use Rattle.bk_script.specs.Limits.{most_bytes, most_slots, most_turns}
 use Rattle.bk_script.specs.declared.fault.ScriptFault.{ScriptFault}
 use Rattle.bk_script.specs.declared.line.Line.{Line}
 use Rattle.bk_script.specs.declared.line.Line.TheVariants.{Record, Ends}
-use Rattle.bk_script.specs.Fault.{first_failing, ◌>>=◌}
-use Rattle.bk_script.specs.Fields.{is_digit, is_hex, is_bytes, bytes_of}
+use Rattle.bk_script.specs.Fault.{fault_at}
+use Rattle.bk_base.specs.Faults.{first_failing, ◌>>=◌}
+use Rattle.bk_report.specs.Reading.{is_digit}
+use Rattle.bk_script.specs.Fields.{is_hex, is_bytes, bytes_of}
 use Rattle.bk_script.specs.Lines.{line_at, ended, line_of, last, follows, is_below, record_checks, end_checks, lines_at, script_of}
 use Rattle.bk_script.specs.Script.{text_of, IsTyped, IsScript, hex_of}
 use Rattle.bk_script.proofs.Numbers.{is_number-decimal, number-decimal, is_number-parts}
@@ -24,7 +28,7 @@ use Rattle.bk_script.proofs.Parts.{lines_at-cut, script_of-short}
 
 line_at-record : (lines turns at : ℕ) (before : List TypedAt) (said : Option Line) (rest : List (List ℕ)) (others : List TypedAt → Result (List TypedAt × ℕ) ScriptFault)
     (slot line : ℕ) (bytes : List ℕ) (passed : Unit {0})
-    → said ≡ Some (Record slot line bytes) → first_failing at (record_checks lines before slot line) ≡ Ok passed
+    → said ≡ Some (Record slot line bytes) → first_failing (fault_at at) (record_checks lines before slot line) ≡ Ok passed
     → line_at lines turns at before said rest others ≡ others (before ++ record { slot = slot; line = line; bytes = bytes } ∷ [])
 line_at-record lines turns at before said rest others slot line bytes passed is good =
     ap (λ s. line_at lines turns at before s rest others) is
@@ -32,7 +36,7 @@ line_at-record lines turns at before said rest others slot line bytes passed is 
 
 line_at-ends : (lines turns at : ℕ) (before : List TypedAt) (said : Option Line) (rest : List (List ℕ)) (others : List TypedAt → Result (List TypedAt × ℕ) ScriptFault)
     (slots : ℕ) (passed : Unit {0})
-    → said ≡ Some (Ends slots) → first_failing at (end_checks turns before slots) ≡ Ok passed
+    → said ≡ Some (Ends slots) → first_failing (fault_at at) (end_checks turns before slots) ≡ Ok passed
     → line_at lines turns at before said rest others ≡ ended (at + 1) before slots rest
 line_at-ends lines turns at before said rest others slots passed is good =
     ap (λ s. line_at lines turns at before s rest others) is
@@ -116,10 +120,10 @@ text_of-none slots = refl
 -- a record that is read at its line
 record IsGood (lines slots : ℕ) (x : TypedAt) : Type 0 where
   plain : IsPlain x
-  slot : x.slot ≤ 65534
+  slot : x.slot < most_slots
   line : x.line < lines
 
-good_from_typed : (lines slots : ℕ) → lines < 2 ^ 8 → slots ≤ 65535 → (x : TypedAt) → IsTyped lines slots x → IsGood lines slots x
+good_from_typed : (lines slots : ℕ) → lines < 2 ^ 8 → slots ≤ most_slots → (x : TypedAt) → IsTyped lines slots x → IsGood lines slots x
 good_from_typed lines slots few_lines few x t =
     let s = t.slot in
     let l = t.line in
@@ -134,25 +138,25 @@ good_from_typed lines slots few_lines few x t =
       line = l;
     }
 
-all_good : (lines slots : ℕ) → lines < 2 ^ 8 → slots ≤ 65535 → (xs : List TypedAt) → AllByRecursion (IsTyped lines slots) xs → AllByRecursion (IsGood lines slots) xs
+all_good : (lines slots : ℕ) → lines < 2 ^ 8 → slots ≤ most_slots → (xs : List TypedAt) → AllByRecursion (IsTyped lines slots) xs → AllByRecursion (IsGood lines slots) xs
 all_good lines slots few_lines few [] h = tt
 all_good lines slots few_lines few (x ∷ xs) h = (good_from_typed lines slots few_lines few x h.0, all_good lines slots few_lines few xs h.1)
 
-record_passes : (lines at : ℕ) (before : List TypedAt) (slot line : ℕ) → slot ≤ 65534 → line < lines → follows (last before) slot line ≡ true
-    → first_failing at (record_checks lines before slot line) ≡ Ok tt
+record_passes : (lines at : ℕ) (before : List TypedAt) (slot line : ℕ) → slot < most_slots → line < lines → follows (last before) slot line ≡ true
+    → first_failing (fault_at at) (record_checks lines before slot line) ≡ Ok tt
 record_passes lines at before slot line s l f =
-    let a : nat_lt 65534 slot ≡ false = grind (arith, nat_tests, s) in
+    let a : nat_le most_slots slot ≡ false = grind (arith, nat_tests, s) in
     let b : nat_le lines line ≡ false = grind (arith, nat_tests, l) in
     rw (a, b, f) refl
 
-end_passes : (turns at : ℕ) (before : List TypedAt) (slots : ℕ) → slots ≤ 65535 → slots * turns ≤ 4194304 → is_below (last before) slots ≡ true
-    → first_failing at (end_checks turns before slots) ≡ Ok tt
+end_passes : (turns at : ℕ) (before : List TypedAt) (slots : ℕ) → slots ≤ most_slots → slots * turns ≤ most_turns → is_below (last before) slots ≡ true
+    → first_failing (fault_at at) (end_checks turns before slots) ≡ Ok tt
 end_passes turns at before slots few within f =
-    let a : nat_lt 65535 slots ≡ false = grind (arith, nat_tests, few) in
-    let b : nat_lt 4194304 (slots * turns) ≡ false = grind (arith, nat_tests, within) in
+    let a : nat_lt most_slots slots ≡ false = grind (arith, nat_tests, few) in
+    let b : nat_lt most_turns (slots * turns) ≡ false = grind (arith, nat_tests, within) in
     rw (a, b, f) refl
 
-again_at : (lines turns slots : ℕ) → slots ≤ 65535 → slots * turns ≤ 4194304 → (xs : List TypedAt) (at : ℕ) (before : List TypedAt)
+again_at : (lines turns slots : ℕ) → slots ≤ most_slots → slots * turns ≤ most_turns → (xs : List TypedAt) (at : ℕ) (before : List TypedAt)
     → AllByRecursion (IsGood lines slots) xs → Follow (last before) xs → is_below (last (before ++ xs)) slots ≡ true
     → lines_at lines turns at before (slice_split (λ b. b == 10) (text_of xs slots)) ≡ Ok (before ++ xs, slots)
 again_at lines turns slots few within [] at before good follow below =
@@ -186,7 +190,7 @@ slots_of lines slots (x ∷ xs) h = (h.0.slot, slots_of lines slots xs h.1)
 
 -- a script that isn't too long is read again from its text
 pub script_of-text_of : (lines turns : ℕ) (records : List TypedAt) (slots : ℕ) → lines < 2 ^ 8 → IsScript lines turns records slots
-    → length (text_of records slots) ≤ 1048576 → script_of lines turns (text_of records slots) ≡ Ok (records, slots)
+    → length (text_of records slots) ≤ most_bytes → script_of lines turns (text_of records slots) ≡ Ok (records, slots)
 script_of-text_of lines turns records slots few_lines s short =
     let typed = recursion_from_All (IsTyped lines slots) records s.typed in
     let good = all_good lines slots few_lines s.few records typed in

@@ -1,12 +1,14 @@
 -- Numbers of a script: the digits are the number in decimal, and the other way round.
-use Rattle.std.proofs.Common.{◌≡◌, ℕ, ◌+◌, ◌-◌, ◌*◌, ◌^◌, ◌<◌, ◌≤◌, Bool, true, false, List, [], ◌∷◌, length, get_or, nat_le, decimal, refl, ap, arith, nat_eq, lit<, suc, zero}
+use Rattle.std.proofs.Common.{◌≡◌, ℕ, ◌+◌, ◌-◌, ◌*◌, ◌^◌, ◌<◌, ◌≤◌, Bool, true, false, List, [], ◌∷◌, length, get_or, nat_le, decimal, refl, ap, arith, nat_eq}
+use Rattle.std.proofs.Common.{lit<, suc, zero}
 use Rattle.std.specs.Prelude.{◌&&◌, not, fold}
 use Rattle.std.specs.List.{list_all}
 use Rattle.std.proofs.lemmas.Bool.{and_parts}
 use Rattle.std.proofs.lemmas.Bool.Decides.{nat_tests}
 use Rattle.std.proofs.lemmas.Fmt.{decimal-digits_value, digits_decimal, digits_value-decimal, length-decimal-le, decimal_nonempty, first_decimal, decimal_digit}
 use Rattle.std.proofs.lemmas.Str.Parse.{IsNumeralModel, IsDigitsTest, FoldsDigits, numerals_by_fold, digits_value_short}
-use Rattle.bk_script.specs.Fields.{is_digit, leads_with_zero, is_number, number}
+use Rattle.bk_report.specs.Reading.{is_digit}
+use Rattle.bk_script.specs.Fields.{leads_with_zero, is_number, number}
 
 abbrev AreDigits : List ℕ → Type 0
 AreDigits text = list_all is_digit text ≡ true

@@ -3,6 +3,7 @@ use Rattle.std.proofs.Common.{◌≡◌, ℕ, ◌+◌, Bool, true, false, List, 
 use Rattle.std.proofs.lemmas.Bool.Decides.{nat_tests}
 use Rattle.std.specs.Prelude.{◌==◌}
 use Rattle.std.specs.List.{slice_split, onto_first}
+use Rattle.bk_script.specs.Limits.{most_bytes}
 use Rattle.bk_script.specs.declared.fault.ScriptKind.TheVariants as kind
 use Rattle.bk_system.specs.declared.TypedAt.{TypedAt}
 use Rattle.bk_script.specs.Fault.{fault}
@@ -16,18 +17,18 @@ fields_of-four one two three p more =
     rw rest.2 refl
 
 -- a script that isn't too long is its lines
-pub script_of-short : (lines turns : ℕ) (bytes : List ℕ) → length bytes ≤ 1048576
+pub script_of-short : (lines turns : ℕ) (bytes : List ℕ) → length bytes ≤ most_bytes
     → script_of lines turns bytes ≡ lines_at lines turns 1 [] (slice_split (λ b. b == 10) bytes)
 unfolding script_of
 script_of-short lines turns bytes short =
-    let test : nat_lt 1048576 (length bytes) ≡ false = grind (arith, nat_tests, short) in
+    let test : nat_lt most_bytes (length bytes) ≡ false = grind (arith, nat_tests, short) in
     rw test refl
 
-pub script_of-long : (lines turns : ℕ) (bytes : List ℕ) → 1048576 < length bytes
+pub script_of-long : (lines turns : ℕ) (bytes : List ℕ) → most_bytes < length bytes
     → script_of lines turns bytes ≡ fault 0 kind.Long
 unfolding script_of
 script_of-long lines turns bytes long =
-    let test : nat_lt 1048576 (length bytes) ≡ true = grind (arith, nat_tests, long) in
+    let test : nat_lt most_bytes (length bytes) ≡ true = grind (arith, nat_tests, long) in
     rw test refl
 
 -- the lines of a line and what follows its LF

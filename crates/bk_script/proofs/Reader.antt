@@ -3,17 +3,19 @@ use Rattle.std.proofs.Common.{◌≡◌, ℕ, ◌+◌, ◌≤◌, List, [], ◌�
 use Rattle.std.specs.Prelude.{Option, Result, ◌==◌}
 use Rattle.std.specs.List.{slice_split}
 use Rattle.bk_system.specs.declared.TypedAt.{TypedAt}
+use Rattle.bk_script.specs.Limits.{most_bytes}
 use Rattle.bk_script.specs.declared.fault.ScriptFault.{ScriptFault}
 use Rattle.bk_script.specs.declared.fault.ScriptKind.TheVariants as kind
 use Rattle.bk_script.specs.declared.line.Line.{Line}
 use Rattle.bk_script.specs.declared.line.Line.TheVariants.{Record, Ends}
-use Rattle.bk_script.specs.Fault.{fault, first_failing, ◌>>=◌}
+use Rattle.bk_script.specs.Fault.{fault, fault_at}
+use Rattle.bk_base.specs.Faults.{first_failing, ◌>>=◌}
 use Rattle.bk_script.specs.Lines.{line_of, record_checks, end_checks, ended, line_at, lines_at, script_of}
 use Rattle.bk_script.proofs.Parts.{lines_at-cut, script_of-short}
 
 -- before the line numbered at, after the records that were read, with the rest of the bytes
 pub record Stands (lines turns at : ℕ) (bytes rest : List ℕ) (before : List TypedAt) : Type 0 where
-  pub short : length bytes ≤ 1048576
+  pub short : length bytes ≤ most_bytes
   pub same : lines_at lines turns at before (slice_split (λ b. b == 10) rest) ≡ lines_at lines turns 1 [] (slice_split (λ b. b == 10) bytes)
 
 -- the next line, the bytes after it, and what it says
@@ -52,13 +54,13 @@ neither stands next = next_line stands next
 
 pub record_refused : {lines turns at : ℕ} {bytes rest text more : List ℕ} {before : List TypedAt} {slot line : ℕ} {hex : List ℕ} {f : ScriptFault}
     → Stands lines turns at bytes rest before → Next rest text more (Some (Record slot line hex))
-    → first_failing at (record_checks lines before slot line) ≡ Err f → script_of lines turns bytes ≡ Err f
+    → first_failing (fault_at at) (record_checks lines before slot line) ≡ Err f → script_of lines turns bytes ≡ Err f
 record_refused {lines} {turns} {at} {bytes} {rest} {text} {more} {before} {slot} {line} {hex} stands next bad =
     next_line stands next ∙ ap (λ r. r >>= (λ passed. others lines turns at more (with_record before slot line hex))) bad
 
 pub record_taken : {lines turns at : ℕ} {bytes rest text more : List ℕ} {before : List TypedAt} {slot line : ℕ} {hex : List ℕ}
     → Stands lines turns at bytes rest before → Next rest text more (Some (Record slot line hex))
-    → first_failing at (record_checks lines before slot line) ≡ Ok tt → Stands lines turns (at + 1) bytes more (with_record before slot line hex)
+    → first_failing (fault_at at) (record_checks lines before slot line) ≡ Ok tt → Stands lines turns (at + 1) bytes more (with_record before slot line hex)
 record_taken {lines} {turns} {at} {bytes} {rest} {text} {more} {before} {slot} {line} {hex} stands next good = record {
   short = stands.short;
   same =
@@ -68,14 +70,14 @@ record_taken {lines} {turns} {at} {bytes} {rest} {text} {more} {before} {slot} {
 
 pub end_refused : {lines turns at : ℕ} {bytes rest text more : List ℕ} {before : List TypedAt} {slots : ℕ} {f : ScriptFault}
     → Stands lines turns at bytes rest before → Next rest text more (Some (Ends slots))
-    → first_failing at (end_checks turns before slots) ≡ Err f → script_of lines turns bytes ≡ Err f
+    → first_failing (fault_at at) (end_checks turns before slots) ≡ Err f → script_of lines turns bytes ≡ Err f
 end_refused {lines} {turns} {at} {bytes} {rest} {text} {more} {before} {slots} stands next bad =
     next_line stands next ∙ ap (λ r. r >>= (λ passed. ended (at + 1) before slots (slice_split (λ b. b == 10) more))) bad
 
 -- the END line stands, and then what follows counts
 pub end_taken : {lines turns at : ℕ} {bytes rest text more : List ℕ} {before : List TypedAt} {slots : ℕ}
     → Stands lines turns at bytes rest before → Next rest text more (Some (Ends slots))
-    → first_failing at (end_checks turns before slots) ≡ Ok tt
+    → first_failing (fault_at at) (end_checks turns before slots) ≡ Ok tt
     → script_of lines turns bytes ≡ ended (at + 1) before slots (slice_split (λ b. b == 10) more)
 end_taken {lines} {turns} {at} {bytes} {rest} {text} {more} {before} {slots} stands next good =
     next_line stands next ∙ ap (λ r. r >>= (λ passed. ended (at + 1) before slots (slice_split (λ b. b == 10) more))) good

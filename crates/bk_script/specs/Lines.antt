@@ -1,13 +1,16 @@
 -- The lines of a script, and its first fault.
-use Rattle.std.specs.Prelude.{ℕ, ◌+◌, ◌-◌, ◌*◌, Bool, true, not, ◌&&◌, ◌||◌, if◌then◌else◌, nat_lt, nat_le, ◌==◌, List, [], ◌∷◌, ◌++◌, length, slice_get, bytes_eq, codes, Option, Some, None, Result, Ok}
+use Rattle.std.specs.Prelude.{ℕ, ◌+◌, ◌-◌, ◌*◌, Bool, true, not, ◌&&◌, ◌||◌, if◌then◌else◌, nat_lt, nat_le, ◌==◌, List, [], ◌∷◌, ◌++◌, length, slice_get}
+use Rattle.std.specs.Prelude.{bytes_eq, codes, Option, Some, None, Result, Ok}
 use Rattle.std.specs.List.{slice_split}
+use Rattle.bk_script.specs.Limits.{most_bytes, most_slots, most_turns}
 use Rattle.bk_script.specs.declared.fault.ScriptFault.{ScriptFault}
 use Rattle.bk_script.specs.declared.fault.ScriptKind.{ScriptKind}
 use Rattle.bk_script.specs.declared.fault.ScriptKind.TheVariants as kind
 use Rattle.bk_script.specs.declared.line.Line.{Line}
 use Rattle.bk_script.specs.declared.line.Line.TheVariants.{Record, Ends}
 use Rattle.bk_system.specs.declared.TypedAt.{TypedAt}
-use Rattle.bk_script.specs.Fault.{◌>>=◌, fault, first_failing}
+use Rattle.bk_script.specs.Fault.{fault, fault_at}
+use Rattle.bk_base.specs.Faults.{◌>>=◌, first_failing}
 use Rattle.bk_script.specs.Fields.{is_number, number, is_bytes, bytes_of}
 
 -- END SLOTS
@@ -31,6 +34,7 @@ fields_of (one ∷ two ∷ three ∷ four ∷ more) = None
 unfoldable pub line_of : List ℕ → Option Line
 line_of text = fields_of (slice_split (λ b. b == 32) text)
 
+-- the last record, where there is one
 abbrev pub last : List TypedAt → Option TypedAt
 last records = slice_get records (length records - 1)
 
@@ -47,7 +51,7 @@ is_below (Some before) slots = nat_lt before.slot slots
 -- the checks of a record after those before it
 abbrev pub record_checks : ℕ → List TypedAt → ℕ → ℕ → List (ScriptKind × Bool)
 record_checks lines before slot line =
-    (kind.Limit, nat_lt 65534 slot)
+    (kind.Limit, nat_le most_slots slot)
     ∷ (kind.Line, nat_le lines line)
     ∷ (kind.Order, not (follows (last before) slot line))
     ∷ []
@@ -55,7 +59,7 @@ record_checks lines before slot line =
 -- the checks of the END line after the records
 abbrev pub end_checks : ℕ → List TypedAt → ℕ → List (ScriptKind × Bool)
 end_checks turns before slots =
-    (kind.Limit, nat_lt 65535 slots || nat_lt 4194304 (slots * turns))
+    (kind.Limit, nat_lt most_slots slots || nat_lt most_turns (slots * turns))
     ∷ (kind.Slot, not (is_below (last before) slots))
     ∷ []
 
@@ -70,10 +74,10 @@ ended at before slots ((b ∷ text) ∷ rest) = fault at kind.After
 abbrev pub line_at : ℕ → ℕ → ℕ → List TypedAt → Option Line → List (List ℕ) → (List TypedAt → Result (List TypedAt × ℕ) ScriptFault) → Result (List TypedAt × ℕ) ScriptFault
 line_at lines turns at before None rest others = fault at kind.Form
 line_at lines turns at before (Some (Record slot line bytes)) rest others = do
-  passed ← first_failing at (record_checks lines before slot line)
+  passed ← first_failing (fault_at at) (record_checks lines before slot line)
   others (before ++ record { slot = slot; line = line; bytes = bytes } ∷ [])
 line_at lines turns at before (Some (Ends slots)) rest others = do
-  passed ← first_failing at (end_checks turns before slots)
+  passed ← first_failing (fault_at at) (end_checks turns before slots)
   ended (at + 1) before slots rest
 
 -- The lines from the one numbered `at`, after the records before them. Each part but the last has an LF behind it,
@@ -87,4 +91,4 @@ lines_at lines turns at before (text ∷ next ∷ parts) =
 -- the records and the number of slots that the bytes spell, for an image of so many lines and turns; or the first fault
 unfoldable pub script_of : ℕ → ℕ → List ℕ → Result (List TypedAt × ℕ) ScriptFault
 script_of lines turns bytes =
-    if nat_lt 1048576 (length bytes) then fault 0 kind.Long else lines_at lines turns 1 [] (slice_split (λ b. b == 10) bytes)
+    if nat_lt most_bytes (length bytes) then fault 0 kind.Long else lines_at lines turns 1 [] (slice_split (λ b. b == 10) bytes)

@@ -1,8 +1,6 @@
 -- A script's text, and what holds of a script.
-use Rattle.std.specs.Prelude.{◌≡◌, ℕ, ◌+◌, ◌/◌, ◌%◌, nat_le, if◌then◌else◌, ◌*◌, ◌<◌, ◌≤◌, ◌^◌, ◌⊎◌, List, [], ◌∷◌, ◌++◌, length, flat_map, All, codes, decimal, Result, Ok, Err}
-use Rattle.bk_script.specs.declared.fault.ScriptFault.{ScriptFault}
-use Rattle.bk_script.specs.declared.fault.ScriptStop.{ScriptStop}
-use Rattle.bk_script.specs.declared.fault.ScriptStop.TheVariants.{Bad, NoMemory}
+use Rattle.std.specs.Prelude.{◌≡◌, ℕ, ◌+◌, ◌/◌, ◌%◌, nat_le, if◌then◌else◌, ◌*◌, ◌<◌, ◌≤◌, ◌^◌, ◌⊎◌, List, [], ◌∷◌, ◌++◌, length, flat_map, All, codes, decimal}
+use Rattle.bk_script.specs.Limits.{most_slots, most_turns}
 use Rattle.bk_system.specs.declared.TypedAt.{TypedAt}
 use Rattle.bk_system.specs.declared.Script.{Script}
 
@@ -42,16 +40,11 @@ IsInOrder (one ∷ two ∷ records) = IsAbove one two × IsInOrder (two ∷ reco
 
 -- what holds of the records and the number of slots, for an image of so many lines and turns
 pub record IsScript (lines turns : ℕ) (records : List TypedAt) (slots : ℕ) : Type 0 where
-  pub few : slots ≤ 65535
-  pub within : slots * turns ≤ 4194304
+  pub few : slots ≤ most_slots
+  pub within : slots * turns ≤ most_turns
   pub typed : All (IsTyped lines slots) records
   pub order : IsInOrder records
 
--- What was read is what the definition gives, unless memory ran out.
-abbrev pub Refuses : ScriptStop → Result (List TypedAt × ℕ) ScriptFault → Type 0
-Refuses (Bad fault) read = read ≡ Err fault
-Refuses NoMemory read = Unit {0}
-
-abbrev pub Gives : Result Script ScriptStop → Result (List TypedAt × ℕ) ScriptFault → Type 0
-Gives (Ok script) read = read ≡ Ok (script.typed, script.slots)
-Gives (Err stop) read = Refuses stop read
+-- a script's records and its number of slots
+abbrev pub parts_of : Script → List TypedAt × ℕ
+parts_of script = (script.typed, script.slots)

@@ -1,8 +1,7 @@
 ghost use Rattle.std.specs.Prelude.{◌≡◌};
 ghost use Rattle.bk_script.specs.Fault.{kind_text};
 
-use bk_base::NoMemory;
-use std::alloc::AllocFailed;
+use bk_base::Stop;
 
 /// Why a script is refused.
 #[derive(Clone, Copy, PartialEq, Eq, Debug)]
@@ -51,41 +50,15 @@ pub struct ScriptFault {
 }
 
 /// Why no script was read: a fault of its bytes, or want of memory.
-#[derive(Clone, Copy, PartialEq, Eq, Debug)]
-pub enum ScriptStop {
-    Bad(ScriptFault),
-    NoMemory,
-}
+pub type ScriptStop = Stop<ScriptFault>;
 
 impl From<ScriptFault> for ScriptStop {
     ghost use Rattle.std.specs.Prelude.{◌≡◌};
-    ghost use Rattle.bk_script.specs.declared.fault.ScriptStop.TheVariants.{Bad};
+    ghost use Rattle.bk_base.specs.declared.stop.Stop.TheVariants.{Bad};
 
     ghost from_gives = { λ fault stop. stop ≡ Bad fault };
 
     fn from(fault: ScriptFault) -> ScriptStop {
-        ScriptStop::Bad(fault)
-    }
-}
-
-impl From<NoMemory> for ScriptStop {
-    ghost use Rattle.std.specs.Prelude.{◌≡◌};
-    ghost use Rattle.bk_script.specs.declared.fault.ScriptStop.TheVariants.{NoMemory};
-
-    ghost from_gives = { λ _ stop. stop ≡ NoMemory };
-
-    fn from(_: NoMemory) -> ScriptStop {
-        ScriptStop::NoMemory
-    }
-}
-
-impl<T: Drop> From<AllocFailed<T>> for ScriptStop {
-    ghost use Rattle.std.specs.Prelude.{◌≡◌};
-    ghost use Rattle.bk_script.specs.declared.fault.ScriptStop.TheVariants.{NoMemory};
-
-    ghost from_gives = { λ _ stop. stop ≡ NoMemory };
-
-    fn from(_: AllocFailed<T>) -> ScriptStop {
-        ScriptStop::NoMemory
+        Stop::Bad(fault)
     }
 }

@@ -1,12 +1,13 @@
 ghost use Rattle.std.specs.Prelude.{◌≡◌, ◌<◌, ◌^◌, IsTrue, IfOk};
 ghost use Rattle.std.specs.List.{list_all};
-ghost use Rattle.bk_script.specs.Fields.{is_digit, leads_with_zero, is_number, number, is_hex, is_bytes, bytes_of};
+ghost use Rattle.bk_report.specs.Reading.{is_digit};
+ghost use Rattle.bk_script.specs.Fields.{leads_with_zero, is_number, number, is_hex, is_bytes, bytes_of};
 
 use bk_base::{Bytes, NoMemory};
 use std::alloc::Global;
 
 fn leads_with_zero(text: &[u8]) -> bool
-    ensures { result ≡ leads_with_zero text.now }
+    ensures value { result ≡ leads_with_zero text.now }
 {
     match text {
         [] => false,
@@ -40,7 +41,7 @@ pub fn number(text: &[u8]) -> u32
 }
 
 fn are_hex(text: &[u8]) -> bool
-    ensures { result ≡ list_all is_hex text.now }
+    ensures value { result ≡ list_all is_hex text.now }
 {
     text.iter()
         .all(|b| 48 <= *b && *b <= 57 || 97 <= *b && *b <= 102)

@@ -1,8 +1,10 @@
 ghost use Rattle.std.specs.Prelude.{◌≡◌, ◌+◌, ◌==◌, ◌<◌, ◌≤◌, ◌^◌, length, Ok, IfOk, IfErr};
 ghost use Rattle.std.specs.List.{slice_split};
-ghost use Rattle.bk_script.specs.Fault.{first_failing};
+ghost use Rattle.bk_base.specs.Faults.{first_failing, Gives, Refuses};
+ghost use Rattle.bk_base.specs.declared.stop.Stop.TheVariants.{Bad};
+ghost use Rattle.bk_script.specs.Fault.{fault_at};
 ghost use Rattle.bk_script.specs.Lines.{follows, is_below, last, record_checks, end_checks, ended, script_of};
-ghost use Rattle.bk_script.specs.Script.{Gives, IsScript, Refuses, text_of};
+ghost use Rattle.bk_script.specs.Script.{IsScript, parts_of, text_of};
 
 use crate::fault::{ScriptFault, ScriptKind, ScriptStop};
 use crate::line::{Line, read_line};
@@ -11,8 +13,17 @@ use bk_state::Image;
 use bk_system::{Script, TypedAt, TypedList};
 use std::alloc::Global;
 
+/// How many bytes a script has at most.
+const MOST_BYTES: usize = 1_048_576;
+
+/// How many slots a script has at most.
+const MOST_SLOTS: u32 = 65_535;
+
+/// How many turns all of its slots have at most.
+const MOST_TURNS: u64 = 4_194_304;
+
 fn follows(before: &[TypedAt], slot: u32, line: u32) -> bool
-    ensures { result ≡ follows (last before.now) slot line }
+    ensures order { result ≡ follows (last before.now) slot line }
 {
     match before.last() {
         None => true,
@@ -36,9 +47,9 @@ fn check_record(
     slot: u32,
     line: u32,
 ) -> Result<(), ScriptFault>
-    ensures { result ≡ first_failing at (record_checks lines before.now slot line) }
+    ensures exact { result ≡ first_failing (fault_at at) (record_checks lines before.now slot line) }
 {
-    if 65534 < slot {
+    if MOST_SLOTS <= slot {
         return Err(ScriptFault {
             line: at,
             kind: ScriptKind::Limit,
@@ -60,9 +71,9 @@ fn check_record(
 }
 
 fn check_end(at: u32, turns: u16, before: &[TypedAt], slots: u32) -> Result<(), ScriptFault>
-    ensures { result ≡ first_failing at (end_checks turns before.now slots) }
+    ensures exact { result ≡ first_failing (fault_at at) (end_checks turns before.now slots) }
 {
-    if 65535 < slots || 4194304 < u64::from(slots) * u64::from(turns) {
+    if MOST_SLOTS < slots || MOST_TURNS < u64::from(slots) * u64::from(turns) {
         return Err(ScriptFault {
             line: at,
             kind: ScriptKind::Limit,
@@ -78,7 +89,7 @@ fn check_end(at: u32, turns: u16, before: &[TypedAt], slots: u32) -> Result<(), 
 }
 
 fn bad(line: u32, kind: ScriptKind) -> ScriptStop
-    ensures { result ≡ ScriptStop.Bad (record { line = line; kind = kind }) }
+    ensures { result ≡ Bad (fault_at line kind) }
 {
     ScriptStop::Bad(ScriptFault { line, kind })
 }
@@ -86,7 +97,7 @@ fn bad(line: u32, kind: ScriptKind) -> ScriptStop
 // The script after its END line: nothing follows, or the line numbered `at` is one too many.
 #[tactic(auto, using(crate::proofs::Parts::end_lemmas))]
 fn ended(at: u32, typed: TypedList, slots: u32, more: &[u8]) -> Result<Script, ScriptStop>
-    ensures { Gives result (ended at typed slots (slice_split (λ b. b == 10) more.now)) }
+    ensures exact { Gives parts_of result (ended at typed slots (slice_split (λ b. b == 10) more.now)) }
 {
     if !more.is_empty() {
         return Err(bad(at, ScriptKind::After));
@@ -95,9 +106,9 @@ fn ended(at: u32, typed: TypedList, slots: u32, more: &[u8]) -> Result<Script, S
 }
 
 fn read_lines(alloc: Global, bytes: &[u8], lines: u8, turns: u16) -> Result<Script, ScriptStop>
-    ensures { Gives result (script_of lines turns bytes.now) }
+    ensures { Gives parts_of result (script_of lines turns bytes.now) }
 {
-    if bytes.len() > 1048576 {
+    if bytes.len() > MOST_BYTES {
         return Err(bad(0, ScriptKind::Long));
     }
     let mut typed = Vec::new(alloc);

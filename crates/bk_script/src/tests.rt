@@ -1,22 +1,8 @@
-use crate::{Script, ScriptFault, ScriptKind, ScriptStop, read_script};
-use bk_base::{Bytes, Sequence};
-use bk_level::LevelTable;
-use bk_state::Image;
-use std::alloc::Global;
-use std::test::Fail;
+// Scripts for an image of three lines, of few turns and of the most; and one for each limit of slots.
 
-/// An image of two lines, of which nothing else counts here.
-fn image(alloc: Global, turns: u16) -> Image {
-    Image {
-        turns,
-        levels: LevelTable::new(),
-        lines: 2,
-        schedule: Bytes::from_vec(Vec::new(alloc)),
-        subjects: Sequence::from_vec(Vec::new(alloc)),
-        objects: Sequence::from_vec(Vec::new(alloc)),
-        holds: Sequence::from_vec(Vec::new(alloc)),
-    }
-}
+use crate::{Script, ScriptFault, ScriptKind, ScriptStop, read_script};
+use bk_fixture::empty_image;
+use std::test::Fail;
 
 fn fault_of(read: Result<Script, ScriptStop>) -> Option<ScriptFault> {
     match read {
@@ -30,10 +16,7 @@ fn reads_records_and_slots(rt: HostRuntime) -> Result<(), Fail> {
     let script = read_script(
         rt.alloc(),
         b"0 0 6869\n1 1 4849\n1 2 00ff\nEND 2\n",
-        &Image {
-            lines: 3,
-            ..image(rt.alloc(), 32)
-        },
+        &empty_image(rt.alloc(), 32, 3),
     )?;
     assert_eq!(rt; script.slots, 2);
     let typed = script.typed.as_slice();
@@ -41,12 +24,19 @@ fn reads_records_and_slots(rt: HostRuntime) -> Result<(), Fail> {
     assert_eq!(rt; (typed[0].slot, typed[0].line), (0, 0));
     assert_eq!(rt; typed[0].bytes.as_slice(), b"hi".as_slice());
     assert_eq!(rt; typed[2].bytes.as_slice(), [0, 255].as_slice());
+    // As many slots as the turns allow, and as many as there can be.
+    for (turns, bytes) in [
+        (4096, b"END 1024\n".as_slice()),
+        (1, b"65534 1 61\nEND 65535\n"),
+    ] {
+        assert!(rt; read_script(rt.alloc(), bytes, &empty_image(rt.alloc(), turns, 2)).is_ok());
+    }
     Ok(())
 }
 
 #[test]
-fn refuses_with_the_first_fault(rt: HostRuntime) -> Result<(), Fail> {
-    let image = image(rt.alloc(), 4096);
+fn refuses_with_the_first_fault(rt: HostRuntime) {
+    let image = empty_image(rt.alloc(), 4096, 2);
     let rows: [(&[u8], u32, ScriptKind); 28] = [
         (b"", 1, ScriptKind::End),
         (b"END 0", 1, ScriptKind::End),
@@ -81,26 +71,16 @@ fn refuses_with_the_first_fault(rt: HostRuntime) -> Result<(), Fail> {
         let fault = fault_of(read_script(rt.alloc(), bytes, &image));
         assert_eq!(rt; fault, Some(ScriptFault { line, kind }));
     }
-    assert!(rt; read_script(rt.alloc(), b"END 1024\n", &image).is_ok());
-    Ok(())
-}
-
-// With one turn a slot the number of slots is at its own limit.
-#[test]
-fn refuses_more_than_65535_slots(rt: HostRuntime) -> Result<(), Fail> {
-    let image = image(rt.alloc(), 1);
-    let text = b"65534 1 61\nEND 65535\n";
-    assert!(rt; read_script(rt.alloc(), text, &image).is_ok());
-    let fault = fault_of(read_script(rt.alloc(), b"END 65536\n", &image));
+    let few = empty_image(rt.alloc(), 1, 2);
     let (line, kind) = (1, ScriptKind::Limit);
+    let fault = fault_of(read_script(rt.alloc(), b"END 65536\n", &few));
     assert_eq!(rt; fault, Some(ScriptFault { line, kind }));
-    Ok(())
 }
 
 // A record of 128 bytes, and of one more.
 #[test]
 fn refuses_a_record_of_129_bytes(rt: HostRuntime) -> Result<(), Fail> {
-    let image = image(rt.alloc(), 32);
+    let image = empty_image(rt.alloc(), 32, 2);
     let mut text = b"0 0 ".to_vec(rt.alloc())?;
     text.extend_from_slice(&[b'6'; 256])?;
     text.extend_from_slice(b"\nEND 1\n")?;
@@ -116,7 +96,7 @@ fn refuses_a_record_of_129_bytes(rt: HostRuntime) -> Result<(), Fail> {
 // A byte over the limit comes before all else; at the limit a line without its LF is told.
 #[test]
 fn refuses_what_is_too_long(rt: HostRuntime) -> Result<(), Fail> {
-    let image = image(rt.alloc(), 32);
+    let image = empty_image(rt.alloc(), 32, 2);
     let mut text = vec![in rt.alloc(); b'6'; 1_048_577]?;
     for (line, kind) in [(0, ScriptKind::Long), (1, ScriptKind::End)] {
         let fault = fault_of(read_script(rt.alloc(), &text, &image));

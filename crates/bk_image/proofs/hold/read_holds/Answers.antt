@@ -4,7 +4,7 @@ use Rattle.bk_image.specs.Parts.{each_of}
 use Rattle.bk_image.specs.Views.{rest_of}
 use Rattle.bk_image.specs.Objects.{objects_in}
 use Rattle.bk_image.specs.Holds.{hold_at}
-use Rattle.bk_image.proofs.Loops.{goes_on, stops, is_done}
+use Rattle.bk_base.proofs.Loops.{goes_on, stops, is_done}
 use Rattle.bk_image.proofs.hold.read_holds.Goals as goal
 
 pub returns-in_err-hold : goal.returns-in_err-hold

@@ -5,7 +5,7 @@ use Rattle.std.proofs.lemmas.Result.{err_from_is_err_and}
 use Rattle.bk_image.specs.Parts.{each_of}
 use Rattle.bk_image.specs.Views.{rest_of}
 use Rattle.bk_image.specs.Objects.{object_at, size}
-use Rattle.bk_image.proofs.Loops.{goes_on, stops, is_done}
+use Rattle.bk_base.proofs.Loops.{goes_on, stops, is_done}
 use Rattle.bk_image.proofs.object.read_objects.Goals as goal
 
 pub returns-in_err-object-clause-exact : goal.returns-in_err-object-clause-exact

@@ -5,7 +5,7 @@ use Rattle.bk_image.specs.Parts.{Gives}
 use Rattle.bk_image.specs.Spelling.{spelling}
 use Rattle.bk_image.proofs.SpeltImage.{is_spelt}
 use Rattle.bk_image.proofs.Passed.{is_accepted, is_secure}
-use Rattle.bk_image.proofs.Grown.{image_grows}
+use Rattle.bk_image.proofs.Fronts.{image_grows}
 use Rattle.bk_image.proofs.reading.read_image.Goals as goal
 
 pub returns-clause-spelt : goal.returns-clause-spelt

@@ -6,7 +6,7 @@ use Rattle.bk_report.proofs.records.is_named.Goals as goal
 pub returns-then-is_number : goal.returns-then-is_number
 returns-then-is_number c =
     let small : c.loop-n.n < 16 = omega arith in
-    sym (names_in-found (has_bit c.args.lines) c.args.word.now c.loop-n.n small (sym c.has_bit.ensures ∙ c.if-has_bit.true) (sym c.is_number.ensures ∙ c.if-is_number.true))
+    sym (names_in-found (has_bit c.args.lines) c.args.word.now c.loop-n.n small (sym c.has_bit.ensures.value ∙ c.if-has_bit.true) (sym c.is_number.ensures ∙ c.if-is_number.true))
 
 pub returns : goal.returns
 returns c =

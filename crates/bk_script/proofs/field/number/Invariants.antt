@@ -1,6 +1,7 @@
 use Rattle.std.proofs.Common.{◌≡◌, ◌≤◌, ◌<◌, ◌^◌, length, take, drop, true}
 use Rattle.std.specs.List.{list_all}
-use Rattle.bk_script.specs.Fields.{number, is_digit}
+use Rattle.bk_report.specs.Reading.{is_digit}
+use Rattle.bk_script.specs.Fields.{number}
 use Rattle.bk_script.proofs.field.number.Given as goal
 
 abbrev pub invariant-loop-digit : goal.invariant-loop-digit
