@@ -3,6 +3,7 @@ use Rattle.std.proofs.Common.{◌≡◌, ℕ, List, [], length, drop, Some, None
 use Rattle.std.specs.Prelude.{Option, Result, IsOk}
 use Rattle.std.specs.Io.KnownBytes.{Appends}
 use Rattle.std.proofs.Math.Seq.{drop-append_seam}
+use Rattle.bk_base.specs.Outside.{SourceState}
 use Rattle.bk_report.specs.Lines.{line_records_of}
 use Rattle.bk_image.specs.Accepted.{IsAccepted}
 use Rattle.bk_image.proofs.Passed.{image_accepted}
@@ -19,9 +20,10 @@ use Rattle.bk_laws.proofs.Isolation.{lines}
 use Rattle.bk_kernel.specs.declared.kernel.Summary.{Summary}
 use Rattle.bk_replay.specs.declared.replaying.RunStop.{RunStop}
 use Rattle.bk_replay.specs.Played.{summary_of}
-use Rattle.bk_replay.specs.Replayed.{OfRun, OfReport, Replayed}
+use Rattle.bk_replay.specs.Input.{OnInput}
+use Rattle.bk_replay.specs.Replayed.{OfRun, OfReport, Replayed, most_read}
 use Rattle.bk_replay.specs.Isolated.{IsAlike, IsIsolated}
-use Rattle.bk_replay.proofs.Answered.{some_map}
+use Rattle.bk_replay.proofs.Input.{input_map}
 
 limited : (image : Image) (records : List TypedAt) (slots : ℕ) → IsAccepted image → IsScript image.lines image.turns records slots → IsLimited image slots
 limited image records slots accepted script = record {
@@ -41,7 +43,8 @@ alike (Some old) (Some now) image records slots accepted script took = λ level.
     ∙ ap (line_records_of (is_line_under level (state_of image))) (drop-append_seam old (report_of image records slots))
     ∙ lines level image records slots (accepted_secure image accepted) (limited image records slots accepted script)
 
-of_report : (before after : Option (List ℕ)) (bytes : List ℕ) → OfReport (Appends before after) bytes → IsIsolated before after bytes
+-- an output that took the report of these bytes took what is isolated
+pub of_report : (before after : Option (List ℕ)) (bytes : List ℕ) → OfReport (Appends before after) bytes → IsIsolated before after bytes
 of_report before after bytes r = record {
   image = r.image;
   records = r.records;
@@ -51,18 +54,10 @@ of_report before after bytes r = record {
       (script_of-spelt r.image.lines r.image.turns (drop r.spells.count bytes) r.records r.slots r.spells.script_is).1 r.run;
 }
 
--- an output that took the report of what the input had left took what is isolated
-pub isolated : (left before after : Option (List ℕ)) → IfSome left (OfReport (Appends before after)) → IfSome left (IsIsolated before after)
-isolated left before after p = some_map left (OfReport (Appends before after)) (IsIsolated before after) (of_report before after) p
-
--- with Ok the output took a report
-took_report : (left now : Option (List ℕ)) (kept rose fell : Type 0) (took part : List ℕ → Type 0) (result : Result Summary RunStop) →
-    Replayed left now kept rose fell took part result → IsOk result → IfSome left (OfReport took)
-took_report left now kept rose fell took part (Ok summary) p ok =
-    some_map left (λ bytes. (now ≡ Some []) × OfRun (λ image records slots. took (report_of image records slots) × (summary ≡ summary_of image records slots)) bytes) (OfReport took)
-    (λ bytes x. record { image = x.1.image; records = x.1.records; slots = x.1.slots; spells = x.1.spells; run = x.1.run.0 }) p
-took_report left now kept rose fell took part (Err stop) p ok = cc
-
-pub isolated_of : (left now before after : Option (List ℕ)) (kept rose fell : Type 0) (part : List ℕ → Type 0) (result : Result Summary RunStop) →
-    Replayed left now kept rose fell (Appends before after) part result → IsOk result → IfSome left (IsIsolated before after)
-isolated_of left now before after kept rose fell part result p ok = isolated left before after (took_report left now kept rose fell (Appends before after) part result p ok)
+module _ (before after : SourceState) (taken now : Option (List ℕ)) (kept : Type 0) (took broke : List ℕ → Type 0) (takes : (text : List ℕ) → took text → Appends taken now text) where
+  -- with Ok the output took a report, which is isolated
+  pub isolated_of : (result : Result Summary RunStop) → Replayed before after kept took broke result → IsOk result → OnInput most_read before after (IsIsolated taken now)
+  isolated_of (Ok summary) p ok =
+      input_map most_read before after (OfRun (λ image records slots. took (report_of image records slots) × (summary ≡ summary_of image records slots))) (IsIsolated taken now)
+      (λ bytes x. of_report taken now bytes (record { image = x.image; records = x.records; slots = x.slots; spells = x.spells; run = takes _ x.run.0 })) p.1
+  isolated_of (Err stop) p ok = cc

@@ -3,7 +3,8 @@ use Rattle.std.proofs.Common.{◌≡◌, ℕ, zero, suc, ◌+◌, ◌-◌, ◌^�
 use Rattle.bk_state.specs.State.{State}
 use Rattle.bk_system.specs.declared.script.TypedAt.{TypedAt}
 use Rattle.bk_system.specs.Step.{joined}
-use Rattle.bk_system.specs.Slot.{slot_of, slots_of, records_for}
+use Rattle.bk_system.specs.Loops.{slots_of}
+use Rattle.bk_system.specs.Slot.{slot_of, records_for}
 use Rattle.bk_kernel.specs.Progress.{Progress, after_slot, next_slot}
 use Rattle.bk_kernel.proofs.Turns.{Extends}
 use Rattle.bk_replay.specs.Played.{after_slots}

@@ -4,15 +4,18 @@ use Rattle.bk_state.specs.State.{State}
 use Rattle.bk_state.specs.declared.image.Image.{Image}
 use Rattle.bk_state.specs.Start.{state_of}
 use Rattle.bk_system.specs.declared.script.TypedAt.{TypedAt}
-use Rattle.bk_system.specs.Slot.{slot_of, slots_of, records_for}
+use Rattle.bk_system.specs.Loops.{slots_of}
+use Rattle.bk_system.specs.Slot.{slot_of, records_for, run_of}
+use Rattle.bk_system.specs.Step.{Step}
+use Rattle.bk_system.proofs.Folds.{run_of-slots}
 use Rattle.bk_system.specs.Report.{calls_in}
 use Rattle.bk_system.proofs.Bounds.{slots_of-Bounded, slot_of-Bounded, calls-append}
 use Rattle.bk_kernel.specs.Progress.{Progress, raised, after_slot, next_slot}
-use Rattle.bk_system.specs.Slot.{run_of}
 use Rattle.bk_system.specs.Report.{report_of}
 use Rattle.bk_report.specs.Text.{lines_of}
 use Rattle.bk_kernel.specs.declared.kernel.Summary.{Summary}
 use Rattle.bk_replay.specs.Played.{after_slots, end_text, summary_of}
+use Rattle.bk_replay.proofs.Slots.{after_slot-state}
 
 abbrev pub summary_in : Progress → Summary
 summary_in p = record { slots = p.slots; turns = p.turns; references = p.references; calls = p.calls }
@@ -46,10 +49,6 @@ next_calls : (p : Progress) (records : List TypedAt) (calls more : ℕ) → p.ca
 unfolding after_slot
 next_calls p records calls more is same few = (λ i. raised 32 (is i) (same i)) ∙ raised_exact calls more (2 ^ 32 - 1) (omega arith)
 
-next_state : (p : Progress) (records : List TypedAt) → (after_slot p records).state ≡ (next_slot p records).state
-unfolding after_slot
-next_state p records = refl
-
 -- each slot of a run adds its own
 pub exact : (v : State) (records : List TypedAt) (n : ℕ) → n ≤ 65535 → n * v.fixed.turns ≤ 4194304 → Exact v records n (after_slots v records n)
 exact v records zero few within = record { state = refl; slots = refl; turns = omega arith; references = refl; calls = refl }
@@ -64,7 +63,7 @@ exact v records (suc n) few within =
     let next : next_slot p (records_for n records) ≡ b = λ i. slot_of (before.slots i) (before.state i) (records_for n records) in
     let turns_same : p.state.fixed.turns ≡ v.fixed.turns = ap (λ w. w.fixed.turns) before.state ∙ same in
     record {
-      state = next_state p (records_for n records) ∙ ap (λ s. s.state) next;
+      state = after_slot-state p (records_for n records) ∙ ap (λ s. s.state) next;
       slots = next_slots p (records_for n records) n before.slots (omega arith) ∙ omega arith;
       turns = next_turns p (records_for n records) (n * v.fixed.turns) v.fixed.turns before.turns turns_same (omega arith) ∙ omega arith;
       references = next_references p (records_for n records) a.references b.references before.references (ap (λ s. s.references) next)
@@ -79,17 +78,17 @@ turns_of_image image = refl
 
 -- the report is the lines of the run's items, and the END line of its totals
 pub report_is : (image : Image) (records : List TypedAt) (n : ℕ) → lines_of (slots_of (state_of image) records n).items ++ end_text (summary_of image records n) ≡ report_of image records n
-unfolding report_of run_of
-report_is image records n = refl
+unfolding report_of
+report_is image records n = ap (λ (s : Step). lines_of s.items ++ end_text (summary_of image records n)) (sym (run_of-slots image records n))
 
 pub summary_exact : (image : Image) (records : List TypedAt) (n : ℕ) (p : Progress) → p ≡ after_slots (state_of image) records n → n ≤ 65535 → n * image.turns ≤ 4194304 →
     summary_in p ≡ summary_of image records n
-unfolding run_of
 summary_exact image records n p is few within =
+    let all : slots_of (state_of image) records n ≡ run_of image records n = sym (run_of-slots image records n) in
     let x = exact (state_of image) records n few (omega (arith, ap (λ t. n * t) (turns_of_image image))) in
     ap summary_in is ∙ (λ i. record {
       slots = x.slots i;
       turns = (x.turns ∙ ap (λ t. n * t) (turns_of_image image)) i;
-      references = x.references i;
-      calls = x.calls i;
+      references = (x.references ∙ ap (λ s. s.references) all) i;
+      calls = (x.calls ∙ ap (λ s. calls_in s.items) all) i;
     })

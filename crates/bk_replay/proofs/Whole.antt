@@ -1,16 +1,21 @@
 -- What was read decides the image and the script of all that the input had left.
-use Rattle.std.proofs.Common.{◌≡◌, ℕ, ◌≤◌, ◌<◌, Bool, true, false, List, [], ◌++◌, length, drop, refl, sym, ◌∙◌, ap, arith, append-nil, length-drop, length-append, subst, Some, None, IfSome, Ok, Err}
-use Rattle.std.specs.Prelude.{Option, Result, nat_lt}
+use Rattle.std.proofs.Common.{◌≡◌, ℕ, ◌≤◌, ◌<◌, Bool, true, false, List, [], ◌++◌, length, drop, refl}
+use Rattle.std.proofs.Common.{sym, ◌∙◌, ap, arith, append-nil, length-drop, length-append, subst, Some, None, IfSome, Ok, Err}
+use Rattle.std.proofs.Math.Seq.{drop-append_seam}
+use Rattle.std.specs.Prelude.{Option, Result, nat_lt, IsTrue}
 use Rattle.std.specs.Io.KnownBytes.{Consumes, IsAtEnd}
 use Rattle.std.proofs.lemmas.Bool.Decides.{nat_tests}
+use Rattle.bk_base.specs.Outside.{SourceState, given_since}
 use Rattle.bk_image.specs.Image.{image_of}
-use Rattle.bk_image.proofs.Cut.{image_cut, image_short}
+use Rattle.bk_image.proofs.Fronts.{image_cut, image_short}
 use Rattle.bk_state.specs.declared.image.Image.{Image}
 use Rattle.bk_system.specs.declared.script.TypedAt.{TypedAt}
 use Rattle.bk_script.specs.declared.fault.ScriptFault.{ScriptFault}
 use Rattle.bk_script.specs.declared.fault.ScriptKind.TheVariants.{Long}
 use Rattle.bk_script.specs.Lines.{script_of}
-use Rattle.bk_replay.specs.Replayed.{script_after}
+use Rattle.bk_replay.specs.Input.{OnInput, IsAllRead}
+use Rattle.bk_replay.specs.Replayed.{script_after, most_read}
+use Rattle.bk_replay.proofs.Input.{some_map}
 
 -- the bytes and what was read of them are an image and a script alike
 pub record Decides (bytes read : List ℕ) : Type 0 where
@@ -42,7 +47,7 @@ decides_long read more h =
     record {
       image = image_cut read more ample;
       script = λ image count there.
-          let short : count ≤ 524288 = image_short read image count ample there in
+          let short : count ≤ 524288 = image_short read image count there in
           script_long image count (read ++ more) short all ∙ sym (script_long image count read short h);
     }
 
@@ -60,7 +65,6 @@ whole None now read p end = tt
 whole (Some bytes) None read p end = absurd p
 whole (Some bytes) (Some rest) read p end = by_length bytes read rest (nat_lt (length read) 1572865) refl p end
 
--- where what was read has a script, all was read
 ended : (left now : Option (List ℕ)) (read : List ℕ) → Consumes left now read → IsAtEnd now → IfSome left (λ bytes. now ≡ Some [])
 ended None now read p e = tt
 ended (Some bytes) None read p e = absurd p
@@ -70,15 +74,30 @@ script_short : (image : Image) (count : ℕ) (read : List ℕ) (x : List TypedAt
 script_short image count read x true t there e = less (length read) 1572865 t
 script_short image count read x false t there e =
     let long : 1572864 < length read = omega (arith, not_less (length read) 1572865 t) in
-    let short : count ≤ 524288 = image_short read image count (omega (arith, long)) there in
+    let short : count ≤ 524288 = image_short read image count there in
     let bad : ◌≡◌ {A = Result (List TypedAt × ℕ) ScriptFault} (Err (record { line = 0; kind = Long })) (Ok x) = sym (script_long image count read short long) ∙ e in
     cc
 
-both : (P Q : List ℕ → Type 0) (left : Option (List ℕ)) → IfSome left P → IfSome left Q → IfSome left (λ bytes. P bytes × Q bytes)
-both P Q None p q = tt
-both P Q (Some bytes) p q = (p, q)
+-- the input was asked for its bytes, and these were read
+pub record Read (before after : SourceState) (read : List ℕ) : Type 0 where
+  pub given : after.given ≡ before.given ++ read
+  pub bytes : Consumes before.left after.left read
+  pub most : length read ≤ 1572865
+  pub end : length read < 1572865 → IsAtEnd after.left
+  pub ended : length read < 1572865 → IsTrue after.ended
 
-pub read_whole : (left now : Option (List ℕ)) (read : List ℕ) (image : Image) (count : ℕ) (x : List TypedAt × ℕ) → Consumes left now read → (length read < 1572865 → IsAtEnd now) → image_of read ≡ Ok (image, count) → script_after image count read ≡ Ok x →
-    IfSome left (λ bytes. (now ≡ Some []) × Decides bytes read)
-read_whole left now read image count x p end there e =
-    both _ _ left (ended left now read p (end (script_short image count read x (nat_lt (length read) 1572865) refl there e))) (whole left now read p end)
+-- what the bytes that were read decide holds of the input
+pub on_input : (before after : SourceState) (read : List ℕ) (P : List ℕ → Type 0) → Read before after read → ((bytes : List ℕ) → Decides bytes read → P bytes) → OnInput most_read before after P
+on_input before after read P r f =
+    let since : given_since before after ≡ read = ap (drop (length before.given)) r.given ∙ drop-append_seam before.given read in
+    record {
+      given = subst P (sym since) (f read (decides_same read read refl));
+      within = omega (arith, ap length since, r.most);
+      whole = λ h. r.ended (omega (arith, ap length since, h));
+      left = some_map before.left (λ bytes. Decides bytes read) P f (whole before.left after.left read r.bytes r.end);
+    }
+
+pub all_read : (before after : SourceState) (read : List ℕ) (image : Image) (count : ℕ) (x : List TypedAt × ℕ) → Read before after read → image_of read ≡ Ok (image, count) → script_after image count read ≡ Ok x → IsAllRead before after
+all_read before after read image count x r there e =
+    let short : length read < 1572865 = script_short image count read x (nat_lt (length read) 1572865) refl there e in
+    record { ended = r.ended short; left = ended before.left after.left read r.bytes (r.end short) }

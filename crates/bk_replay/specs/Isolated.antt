@@ -7,7 +7,7 @@ use Rattle.bk_state.specs.Start.{state_of}
 use Rattle.bk_state.specs.Low.{is_line_under}
 use Rattle.bk_system.specs.declared.script.TypedAt.{TypedAt}
 use Rattle.bk_system.specs.Report.{report_of}
-use Rattle.bk_laws.specs.Seen.{keep}
+use Rattle.bk_system.specs.Kept.{keep}
 use Rattle.bk_replay.specs.Replayed.{OfRun}
 
 -- the line records of the lines under the level are those of the report of the same image, with as many slots, without the

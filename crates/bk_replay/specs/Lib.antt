@@ -1,3 +1,4 @@
 pub mod Played
+pub mod Input
 pub mod Replayed
 pub mod Isolated

@@ -1,7 +1,6 @@
 -- What the bytes of a run spell, and what each answer of a run says.
-use Rattle.std.specs.Prelude.{◌≡◌, ◌⊎◌, ℕ, List, [], drop, Option, Some, IfSome, Result, Ok, Err, IsOk}
-use Rattle.std.specs.Io.KnownBytes.{Appends}
-use Rattle.bk_base.specs.Written.{IsFront}
+use Rattle.std.specs.Prelude.{◌≡◌, ℕ, List, drop, Result, Ok, Err, IsOk}
+use Rattle.bk_base.specs.Outside.{SourceState, Rose}
 use Rattle.bk_image.specs.declared.fault.ImageFault.{ImageFault}
 use Rattle.bk_image.specs.Image.{image_of}
 use Rattle.bk_kernel.specs.declared.kernel.Summary.{Summary}
@@ -12,9 +11,14 @@ use Rattle.bk_system.specs.declared.script.TypedAt.{TypedAt}
 use Rattle.bk_system.specs.Report.{report_of}
 use Rattle.bk_replay.specs.declared.replaying.RunStop.{RunStop}
 use Rattle.bk_replay.specs.declared.replaying.RunStop.TheVariants as stop
+use Rattle.bk_replay.specs.Input.{OnInput, IsAllRead}
 use Rattle.bk_replay.specs.Played.{summary_of}
 
 -- ---- the input
+
+-- the most bytes that a run reads: an image of 524,288, a script of 1,048,576, and one more, which shows that one is too long
+abbrev pub most_read : ℕ
+most_read = 1572865
 
 -- the script that the bytes after an image of so many bytes spell for it, or its first fault
 abbrev pub script_after : Image → ℕ → List ℕ → Result (List TypedAt × ℕ) ScriptFault
@@ -51,31 +55,28 @@ OfReport P bytes = OfRun (λ image records slots. P (report_of image records slo
 
 -- ---- the answers
 
--- a front of the text was taken
-abbrev pub TookPart : (before after : Option (List ℕ)) (text : List ℕ) → Type 0
-TookPart before after text = (front : List ℕ) × IsFront front text × Appends before after front
-
--- What each answer says. `left` is what the input had left, where it tells, and `now` what it has left after the run; `kept`
--- says that the output is untouched, `rose` and `fell` that the counts of faults of the input and of the output rose, `took`
--- and `part` what the output took.
-abbrev pub Replayed : (left now : Option (List ℕ)) (kept rose fell : Type 0) (took part : List ℕ → Type 0) → Result Summary RunStop → Type 0
-Replayed left now kept rose fell took part (Ok summary) =
-    IfSome left (λ bytes. (now ≡ Some []) × OfRun (λ image records slots. took (report_of image records slots) × (summary ≡ summary_of image records slots)) bytes)
-Replayed left now kept rose fell took part (Err stop.Read) = kept × rose
-Replayed left now kept rose fell took part (Err (stop.Image fault)) = kept × IfSome left (IsNoImage fault)
-Replayed left now kept rose fell took part (Err (stop.Script fault)) = kept × IfSome left (IsNoScript fault)
-Replayed left now kept rose fell took part (Err stop.Write) = fell × IfSome left (OfReport part)
-Replayed left now kept rose fell took part (Err stop.NoMemory) = kept
+-- What each answer says. The source was seen as `before` and then as `after`; `kept` says that the output is untouched, `took`
+-- and `broke` that the output took a text, or that it failed after a front of it.
+abbrev pub Replayed : (before after : SourceState) (kept : Type 0) (took broke : List ℕ → Type 0) → Result Summary RunStop → Type 0
+Replayed before after kept took broke (Ok summary) =
+    IsAllRead before after
+    × OnInput most_read before after (OfRun (λ image records slots. took (report_of image records slots) × (summary ≡ summary_of image records slots)))
+Replayed before after kept took broke (Err stop.Read) = kept × Rose before.faults after.faults
+Replayed before after kept took broke (Err (stop.Image fault)) = kept × OnInput most_read before after (IsNoImage fault)
+Replayed before after kept took broke (Err (stop.Script fault)) = kept × OnInput most_read before after (IsNoScript fault)
+Replayed before after kept took broke (Err stop.Write) = OnInput most_read before after (OfReport broke)
+Replayed before after kept took broke (Err stop.NoMemory) = kept
 
 -- what the input asks for: its first fault, or else the report
 abbrev pub by_script : Result (List TypedAt × ℕ) ScriptFault → Result Summary RunStop → Type 0
 by_script (Ok script) result = IsOk result
 by_script (Err fault) result = result ≡ Err (stop.Script fault)
 
+-- the same, or the first fault of what is no image
 abbrev pub by_image : List ℕ → Result (Image × ℕ) ImageFault → Result Summary RunStop → Type 0
 by_image bytes (Ok x) result = by_script (script_after x.0 x.1 bytes) result
 by_image bytes (Err fault) result = result ≡ Err (stop.Image fault)
 
--- the answer is what the input asks for, or want of memory
+-- the answer is what the bytes ask for
 abbrev pub IsAsked : Result Summary RunStop → List ℕ → Type 0
-IsAsked result bytes = by_image bytes (image_of bytes) result ⊎ (result ≡ Err stop.NoMemory)
+IsAsked result bytes = by_image bytes (image_of bytes) result

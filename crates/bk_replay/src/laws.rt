@@ -1,6 +1,6 @@
 ghost use Rattle.std.specs.Prelude.{ℕ, List};
 ghost use Rattle.bk_level.specs.Levels.{Level};
-ghost use Rattle.bk_laws.specs.Seen.{keep};
+ghost use Rattle.bk_system.specs.Kept.{keep};
 ghost use Rattle.bk_script.specs.Script.{IsScript};
 ghost use Rattle.bk_state.specs.Start.{state_of};
 ghost use Rattle.bk_state.specs.declared.image.Image.{Image};

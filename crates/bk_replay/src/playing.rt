@@ -1,13 +1,13 @@
 // All the slots of a run, and its END line.
 
-ghost use Rattle.std.specs.Prelude.{◌≡◌, ◌*◌, ◌≤◌, length, Ok, Err, IfOk, OnOk, OnErr};
+ghost use Rattle.std.specs.Prelude.{◌≡◌, ◌≤◌, length, take, drop, Ok, Err, IfOk, OnOk, OnErr};
 ghost use Rattle.bk_base.specs.Written.{Took, Broke};
 ghost use Rattle.bk_script.specs.Script.{IsInOrder, IsScript};
 ghost use Rattle.bk_image.specs.Accepted.{IsAccepted};
 ghost use Rattle.bk_system.specs.Report.{report_of};
 ghost use Rattle.bk_kernel.specs.Progress.{begun};
 ghost use Rattle.bk_report.specs.Text.{lines_of};
-ghost use Rattle.bk_system.specs.Slot.{slots_of};
+ghost use Rattle.bk_system.specs.Loops.{slots_of};
 ghost use Rattle.bk_replay.specs.Played.{count_front, after_slots, summary_of, end_text};
 
 use bk_base::{Failed, NoMemory, Sink, write_all};
@@ -59,6 +59,14 @@ fn count_front(records: &[TypedAt], slot: u32) -> usize
     records.len()
 }
 
+/// The records in front that are of the slot, and all others.
+fn split_slot(records: &[TypedAt], slot: u32) -> (&[TypedAt], &[TypedAt])
+    ensures front { result.0.now ≡ take (count_front slot records.now) records.now }
+    ensures others { result.1.now ≡ drop (count_front slot records.now) records.now }
+{
+    records.split_at(count_front(records, slot))
+}
+
 /// All the slots, one after another. The kernel has ended none.
 fn play_slots<O: Sink>(kernel: &mut Kernel, script: &Script, out: &mut O) -> Result<(), Failed>
     requires begun { kernel.old ≡ begun kernel.old.state }
@@ -69,7 +77,7 @@ fn play_slots<O: Sink>(kernel: &mut Kernel, script: &Script, out: &mut O) -> Res
 {
     let mut rest = script.typed.as_slice();
     for slot in 0..script.slots {
-        let (records, after) = rest.split_at(count_front(rest, slot));
+        let (records, after) = split_slot(rest, slot);
         rest = after;
         kernel.slot(records, out)?;
     }

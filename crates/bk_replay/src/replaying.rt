@@ -1,10 +1,11 @@
 // A run from its bytes to its report.
 
-ghost use Rattle.std.specs.Prelude.{◌≡◌, IfSome, IsOk};
-ghost use Rattle.std.specs.Io.KnownBytes.{Appends};
+ghost use Rattle.std.specs.Prelude.{◌≡◌, ◌⊎◌, IsOk};
 ghost use Rattle.bk_base.specs.Outside.{Rose};
+ghost use Rattle.bk_base.specs.Written.{Took, Broke};
+ghost use Rattle.bk_replay.specs.Input.{OnInput};
 ghost use Rattle.bk_replay.specs.Isolated.{IsIsolated};
-ghost use Rattle.bk_replay.specs.Replayed.{IsAsked, Replayed, TookPart};
+ghost use Rattle.bk_replay.specs.Replayed.{IsAsked, Replayed, most_read};
 
 use crate::playing::{PlayStop, play};
 use bk_base::{ReadStop, Sink, Source, read_all};
@@ -36,9 +37,11 @@ fn read_and_play<I: Source, O: Sink>(
     input: &mut I,
     out: &mut O,
 ) -> Result<Summary, RunStop>
-    ensures { Replayed (I.left input.old) (I.left input.new) (out.new ≡ out.old)
-        (Rose (I.faults input.old) (I.faults input.new)) (Rose (O.faults out.old) (O.faults out.new))
-        (Appends (O.taken out.old) (O.taken out.new)) (TookPart (O.taken out.old) (O.taken out.new)) result }
+    ensures answer { Replayed (I.state input.old) (I.state input.new) (out.new ≡ out.old)
+        (Took (O.taken out.old) (O.taken out.new) (O.faults out.old) (O.faults out.new))
+        (Broke (O.taken out.old) (O.taken out.new) (O.faults out.old) (O.faults out.new)) result }
+    ensures read_told { (result ≡ Err RunStop.Read → ⊥) → (I.state input.new).faults ≡ (I.state input.old).faults }
+    ensures write_told { (result ≡ Err RunStop.Write → ⊥) → O.faults out.new ≡ O.faults out.old }
 {
     let bytes = match read_all(alloc, input, MOST_BYTES) {
         Ok(bytes) => bytes,
@@ -73,19 +76,24 @@ pub fn replay<I: Source, O: Sink>(
     input: &mut I,
     out: &mut O,
 ) -> Result<Summary, RunStop>
-    // What each answer says: with Ok what the input had left is an image and a script, all of it is read, and the output took
-    // exactly the report of their run; a refusal has its cause, and all but Write leave the output untouched.
-    ensures answer { Replayed (I.left input.old) (I.left input.new) (out.new ≡ out.old)
-        (Rose (I.faults input.old) (I.faults input.new)) (Rose (O.faults out.old) (O.faults out.new))
-        (Appends (O.taken out.old) (O.taken out.new)) (TookPart (O.taken out.old) (O.taken out.new)) result }
+    // What each answer says, of the bytes that were read, and of all that the input had left, where it tells: with Ok they are
+    // an image and a script, all is read, and the output took exactly the report of their run; a refusal has its cause, and
+    // all but Write leave the output untouched.
+    ensures answer { Replayed (I.state input.old) (I.state input.new) (out.new ≡ out.old)
+        (Took (O.taken out.old) (O.taken out.new) (O.faults out.old) (O.faults out.new))
+        (Broke (O.taken out.old) (O.taken out.new) (O.faults out.old) (O.faults out.new)) result }
+
+    // The answer is Read exactly where a read failed, and Write exactly where a write did: elsewhere the counts are as before.
+    ensures read_told { (result ≡ Err RunStop.Read → ⊥) → (I.state input.new).faults ≡ (I.state input.old).faults }
+    ensures write_told { (result ≡ Err RunStop.Write → ⊥) → O.faults out.new ≡ O.faults out.old }
 
     // With Ok, for every level, the line records of the lines under it are those of the report of the same image without the
     // bytes typed on other lines.
-    ensures isolated { IsOk result → IfSome (I.left input.old) (IsIsolated (O.taken out.old) (O.taken out.new)) }
+    ensures isolated { IsOk result → OnInput most_read (I.state input.old) (I.state input.new) (IsIsolated (O.taken out.old) (O.taken out.new)) }
 
     // Where no count rose, the answer is the first fault of the image, or else of the script, or else Ok; or NoMemory.
-    ensures complete { (Rose (I.faults input.old) (I.faults input.new) → ⊥) → (Rose (O.faults out.old) (O.faults out.new) → ⊥)
-        → IfSome (I.left input.old) (IsAsked result) }
+    ensures complete { (Rose (I.state input.old).faults (I.state input.new).faults → ⊥) → (Rose (O.faults out.old) (O.faults out.new) → ⊥)
+        → (result ≡ Err RunStop.NoMemory) ⊎ OnInput most_read (I.state input.old) (I.state input.new) (IsAsked result) }
 {
     read_and_play(alloc, input, out)
 }

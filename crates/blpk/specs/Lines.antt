@@ -4,7 +4,10 @@ use Rattle.bk_image.specs.Texts.{field_text}
 use Rattle.bk_image.specs.declared.fault.ImageFault.{ImageFault}
 use Rattle.bk_script.specs.Fault.{kind_text}
 use Rattle.bk_script.specs.declared.fault.ScriptFault.{ScriptFault}
+use Rattle.blpk.specs.declared.outcome.Refusal.{Refusal}
+use Rattle.blpk.specs.declared.outcome.Refusal.TheVariants as refusal
 
+-- wrong words
 abbrev pub usage_line : List ℕ
 usage_line = codes "usage: blpk run | build | list | gen N\n"
 
@@ -16,8 +19,15 @@ image_line fault = codes "image refused at " ++ decimal fault.at ++ codes ": " +
 abbrev pub script_line : ScriptFault → List ℕ
 script_line fault = codes "script refused at line " ++ decimal fault.line ++ codes ": " ++ kind_text fault.kind ++ codes "\n"
 
+-- the line of a refusal
+abbrev pub line_of : Refusal → List ℕ
+line_of (refusal.Image fault) = image_line fault
+line_of (refusal.Script fault) = script_line fault
+
+-- a read failed
 abbrev pub read_line : List ℕ
 read_line = codes "read fault\n"
 
+-- want of memory
 abbrev pub memory_line : List ℕ
 memory_line = codes "no memory\n"

@@ -3,6 +3,7 @@ use Rattle.std.specs.Prelude.{ℕ}
 use Rattle.blpk.specs.declared.status.Status.{Status}
 use Rattle.blpk.specs.declared.status.Status.TheVariants.{Ok, Usage, ImageRefused, ScriptRefused, ReadFault, WriteFault, NoMemory}
 
+-- the number that the program ends with
 abbrev pub number_of : Status → ℕ
 number_of Ok = 0
 number_of Usage = 2

@@ -1,15 +1,22 @@
 //! The command: an image and a script in, a report out.
 //!
-//! Model: `specs/Words.antt` (the words), `specs/Lines.antt` (the lines of refusals), `specs/Causes.antt` (what each status
-//! says), over `report_of` of `bk_system`, `image_of` of `bk_image` and `script_of` of `bk_script`.
-//! Calls: `run_blpk`; `Status::number`.
-//! Proved: with status Ok exactly the report of the abstract run went out and all input was read; every other status has its
-//! cause and its line; a failed write leaves a front of the report. `main` and the standard streams are tested alone.
-//! Stands on: `arrayvec`, `bk_base`, `bk_image`, `bk_replay`, `bk_report`, `bk_script`.
+//! Model: `specs/Words.antt` (the words), `specs/Made.antt` (what each command makes of what it reads: `made_of`),
+//! `specs/Lines.antt` (the lines), `specs/Causes.antt` (what each status says), `specs/Outcomes.antt` (what the command came to)
+//! and `specs/Statuses.antt` (the numbers), over `report_of` of `bk_system`, `image_of` of `bk_image` and `script_of` of
+//! `bk_script`.
+//! Calls: `run_blpk`; `Status::number`, `Status::exit_code`.
+//! Proved: with status Ok all input was read, and exactly what the command makes of it went out: the report of the abstract run,
+//! isolated for every level; every other status has its cause and its line; a failed write leaves a front of the report; no
+//! failed read or write is passed over. The exit code has the status's number.
+//! Tested: `main`: the words, the standard streams and the exit status of the built program.
+//! Neither: want of memory while the words are fetched.
+//! Stands on: `arrayvec`, `bk_base`, `bk_fixture`, `bk_image`, `bk_kernel`, `bk_laws`, `bk_level`, `bk_replay`, `bk_report`,
+//! `bk_script`, `bk_state`, `bk_system`.
 #![tactic(auto)]
 
 mod finish;
 mod lines;
+mod outcome;
 mod perform;
 mod status;
 #[cfg(test)]
@@ -19,8 +26,9 @@ mod words;
 
 use bk_base::{StdSink, StdSource};
 use finish::finish;
-use status::Outcome;
+use outcome::Outcome;
 use std::alloc::AllocError;
+use std::io::ErrorKind;
 use std::process::ExitCode;
 use std::{env, io};
 use top::run_blpk;
@@ -34,6 +42,7 @@ fn command_line(rt: &HostRuntime) -> Result<Vec<String>, AllocError> {
                 words.push(word)?;
             }
         }
+        Err(error) if error.kind() == ErrorKind::OutOfMemory => return Err(AllocError),
         Err(_) => words.push(String::new(rt.alloc()))?,
     }
     Ok(words)
@@ -45,7 +54,7 @@ fn main(rt: HostRuntime) -> io::Result<ExitCode> {
     let mut err = StdSink::new(rt.stderr());
     let status = match command_line(&rt) {
         Ok(words) => run_blpk(rt.alloc(), &words, &mut input, &mut out, &mut err),
-        Err(_) => finish(&mut err, Outcome::NoMemory),
+        Err(AllocError) => finish(&mut err, Outcome::NoMemory),
     };
-    Ok(ExitCode::from(status.number()))
+    Ok(status.exit_code())
 }

@@ -1,13 +1,11 @@
 // The command itself, but for the line on the error output.
 
 ghost use Rattle.std.specs.Prelude.{◌≡◌};
-ghost use Rattle.std.specs.Io.KnownBytes.{Appends};
-ghost use Rattle.bk_base.specs.Outside.{Rose};
-ghost use Rattle.bk_replay.specs.Replayed.{TookPart};
+ghost use Rattle.bk_base.specs.Written.{Took, Broke};
 ghost use Rattle.blpk.specs.Words.{texts};
-ghost use Rattle.blpk.specs.Causes.{Performed, Ran, outcome_of};
+ghost use Rattle.blpk.specs.Outcomes.{CameTo, Performed, outcome_of};
 
-use crate::status::Outcome;
+use crate::outcome::{Outcome, Refusal};
 use crate::words::{Command, command_of};
 use bk_base::{Sink, Source};
 use bk_replay::{RunStop, Summary, replay};
@@ -20,8 +18,8 @@ fn outcome_of(answer: Result<Summary, RunStop>) -> Outcome
     match answer {
         Ok(_) => Outcome::Written,
         Err(RunStop::Read) => Outcome::Read,
-        Err(RunStop::Image(fault)) => Outcome::Image(fault),
-        Err(RunStop::Script(fault)) => Outcome::Script(fault),
+        Err(RunStop::Image(fault)) => Outcome::Refused(Refusal::Image(fault)),
+        Err(RunStop::Script(fault)) => Outcome::Refused(Refusal::Script(fault)),
         Err(RunStop::Write) => Outcome::Write,
         Err(RunStop::NoMemory) => Outcome::NoMemory,
     }
@@ -29,9 +27,11 @@ fn outcome_of(answer: Result<Summary, RunStop>) -> Outcome
 
 /// The command `run`: the report of the run of what is read.
 fn run<I: Source, O: Sink>(alloc: Global, input: &mut I, out: &mut O) -> Outcome
-    ensures { Ran (I.left input.old) (I.left input.new) (out.new ≡ out.old)
-        (Rose (I.faults input.old) (I.faults input.new)) (Rose (O.faults out.old) (O.faults out.new))
-        (Appends (O.taken out.old) (O.taken out.new)) (TookPart (O.taken out.old) (O.taken out.new)) result }
+    ensures came { CameTo Command.Run (I.state input.old) (I.state input.new) (out.new ≡ out.old)
+        (Took (O.taken out.old) (O.taken out.new) (O.faults out.old) (O.faults out.new))
+        (Broke (O.taken out.old) (O.taken out.new) (O.faults out.old) (O.faults out.new)) result }
+    ensures read_told { (result ≡ Outcome.Read → ⊥) → (I.state input.new).faults ≡ (I.state input.old).faults }
+    ensures write_told { (result ≡ Outcome.Write → ⊥) → O.faults out.new ≡ O.faults out.old }
 {
     outcome_of(replay(alloc, input, out))
 }
@@ -43,9 +43,11 @@ pub fn perform<I: Source, O: Sink>(
     input: &mut I,
     out: &mut O,
 ) -> Outcome
-    ensures { Performed (texts words.now.items) (I.left input.old) (I.left input.new) (input.new ≡ input.old) (out.new ≡ out.old)
-        (Rose (I.faults input.old) (I.faults input.new)) (Rose (O.faults out.old) (O.faults out.new))
-        (Appends (O.taken out.old) (O.taken out.new)) (TookPart (O.taken out.old) (O.taken out.new)) result }
+    ensures performed { Performed (texts words.now.items) (I.state input.old) (I.state input.new) (input.new ≡ input.old) (out.new ≡ out.old)
+        (Took (O.taken out.old) (O.taken out.new) (O.faults out.old) (O.faults out.new))
+        (Broke (O.taken out.old) (O.taken out.new) (O.faults out.old) (O.faults out.new)) result }
+    ensures read_told { (result ≡ Outcome.Read → ⊥) → (I.state input.new).faults ≡ (I.state input.old).faults }
+    ensures write_told { (result ≡ Outcome.Write → ⊥) → O.faults out.new ≡ O.faults out.old }
 {
     match command_of(words) {
         None => Outcome::Usage,

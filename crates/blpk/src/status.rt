@@ -1,8 +1,8 @@
 ghost use Rattle.std.specs.Prelude.{◌≡◌};
+ghost use Rattle.std.specs.Process.{exit_status};
 ghost use Rattle.blpk.specs.Statuses.{number_of};
 
-use bk_image::ImageFault;
-use bk_script::ScriptFault;
+use std::process::ExitCode;
 
 /// How the command ended.
 #[derive(Clone, Copy, PartialEq, Eq, Debug)]
@@ -15,9 +15,9 @@ pub enum Status {
     ImageRefused,
     /// The bytes after the image are no script for it.
     ScriptRefused,
-    /// The input's count of faults rose.
+    /// A read of the input failed.
     ReadFault,
-    /// The count of faults of the output, or of the error output, rose.
+    /// A write of the output, or of the error output, failed.
     WriteFault,
     /// The runtime had no more memory.
     NoMemory,
@@ -38,16 +38,11 @@ impl Status {
             Status::NoMemory => 8,
         }
     }
-}
 
-/// What the command came to, before a line is written on the error output.
-#[derive(Clone, Copy, PartialEq, Eq, Debug)]
-pub enum Outcome {
-    Written,
-    Usage,
-    Read,
-    Image(ImageFault),
-    Script(ScriptFault),
-    Write,
-    NoMemory,
+    /// What `main` ends with: a code of that number.
+    pub fn exit_code(self) -> ExitCode
+        ensures { exit_status result ≡ number_of self }
+    {
+        ExitCode::from(self.number())
+    }
 }

@@ -3,54 +3,10 @@
 use crate::status::Status;
 use crate::top::run_blpk;
 use bk_base::{MemSink, MemSource};
+use bk_fixture::{SAMPLE_REPORT, SAMPLE_SCRIPT, sample_bytes};
 use bk_report::line_records;
 use std::alloc::{AllocError, Global};
 use std::test::Fail;
-
-/// The bytes of the sample's image before the 14 words of its program: the header, the levels, the schedule, the subjects,
-/// root and the record of the segment `/0`.
-const FRONT: [u8; 170] = [
-    66, 76, 80, 75, 1, 0, 32, 0, 2, 2, 2, 2, 4, 0, 6, 0, 0, 0, 0, 0, 1, 0, 0, 0, 0, 1, 0, 0, 3, 3,
-    0, 0, 0, 0, 0, 0, 0, 0, 0, 0, 0, 17, 0, 0, 0, 0, 0, 0, 0, 0, 0, 0, 0, 0, 0, 0, 0, 0, 0, 0, 0,
-    0, 0, 0, 1, 16, 0, 16, 0, 0, 1, 1, 3, 3, 0, 0, 0, 0, 0, 0, 0, 0, 0, 0, 0, 18, 0, 0, 0, 0, 0, 0,
-    0, 0, 0, 0, 0, 0, 0, 0, 0, 0, 0, 0, 0, 0, 0, 0, 1, 16, 0, 16, 0, 0, 0, 0, 0, 0, 0, 0, 0, 0, 16,
-    0, 17, 0, 0, 0, 0, 0, 0, 0, 0, 0, 0, 0, 0, 0, 0, 0, 0, 0, 0, 16, 0, 0, 1, 1, 0, 0, 0, 0, 51, 0,
-    0, 0, 0, 0, 0, 0, 0, 0, 0, 0, 0, 0, 0, 0, 14, 0,
-];
-
-/// The bytes of the sample's image after its program: the records of the two lines, and who holds what.
-const BACK: [u8; 92] = [
-    0, 17, 0, 0, 3, 0, 0, 0, 0, 0, 4, 0, 0, 0, 0, 0, 0, 0, 0, 0, 0, 0, 0, 0, 0, 0, 0, 0, 0, 18, 0,
-    0, 3, 1, 1, 0, 0, 0, 64, 0, 0, 0, 0, 0, 0, 0, 0, 0, 0, 0, 0, 0, 0, 0, 0, 0, 0, 1, 0, 0, 0, 0,
-    0, 2, 0, 16, 0, 0, 0, 4, 0, 17, 0, 0, 1, 1, 0, 0, 0, 0, 1, 2, 0, 16, 0, 0, 1, 4, 0, 18, 0, 0,
-];
-
-/// The 14 words of the sample's program, low bytes first.
-const ECHO: [u8; 28] = [
-    0x41, 0x11, 0xc2, 0x15, 0x00, 0x00, 0x10, 0x88, 0xc0, 0x0b, 0x02, 0x03, 0x14, 0x88, 0xf8, 0x01,
-    0x83, 0x10, 0x41, 0x11, 0xc2, 0x15, 0x00, 0x00, 0x0f, 0x88, 0xf2, 0x01,
-];
-
-const REPORT: &[u8] = b"C 0 2 0 020 000000 010400 000000 000000 000000 010400 yes 0
-C 0 8 0 017 000000 010400 000000 000150 000000 010400 yes 0
-L 0 8 0 150
-C 0 12 0 020 000000 010400 000000 000150 000000 010400 yes 0
-C 0 18 0 017 000000 010400 000000 000151 000000 010400 yes 0
-L 0 18 0 151
-C 0 22 0 020 000000 010400 000000 000151 000000 010400 no 9
-C 0 25 0 024 000001 000011 000000 000151 000000 010400 yes 0
-C 1 2 1 020 000000 011000 000000 000000 000000 011000 yes 0
-C 1 8 1 017 000000 011000 000000 000110 000000 011000 yes 0
-L 1 8 1 110
-C 1 12 1 020 000000 011000 000000 000110 000000 011000 yes 0
-C 1 18 1 017 000000 011000 000000 000111 000000 011000 yes 0
-L 1 18 1 111
-C 1 22 1 020 000000 011000 000000 000111 000000 011000 no 9
-C 1 25 1 024 000001 000011 000000 000111 000000 011000 yes 0
-END 2 64 62 12
-";
-
-const TYPED: &[u8] = b"0 0 6869\n1 1 4849\nEND 2\n";
 
 const USAGE: &[u8] = b"usage: blpk run | build | list | gen N\n";
 
@@ -59,7 +15,16 @@ const TOO_LONG: &[u8] = b"script refused at line 0: long\n";
 /// The first call of the sample, where a byte was typed.
 const FIRST_CALL: &[u8] = b"C 0 2 0 020 000000 010400 000000 000000 000000 010400 yes 0\n";
 
-const WRONG_WORDS: [&[&str]; 5] = [&["run", "x"], &[], &["RUN"], &["gen"], &["gen", "01"]];
+const WRONG_WORDS: [&[&str]; 8] = [
+    &["run", "x"],
+    &[],
+    &["RUN"],
+    &[""],
+    &["gen"],
+    &["gen", "01"],
+    &["--help"],
+    &["--version"],
+];
 
 /// How the outside of a call behaves: the bytes of a read, the reads that fail, the room of the output, the bytes of a write,
 /// the writes that fail, and the room of the error output.
@@ -122,22 +87,9 @@ fn gives(
     Ok(status == wanted.0 && sink.taken() == wanted.1 && errors.taken() == wanted.2)
 }
 
-/// The sample's image with other program bytes, and a script behind it.
-fn with_program(alloc: Global, program: &[u8], script: &[u8]) -> Result<Vec<u8>, AllocError> {
-    let mut bytes = FRONT.to_vec(alloc)?;
-    bytes.extend_from_slice(program)?;
-    bytes.extend_from_slice(&BACK)?;
-    bytes.extend_from_slice(script)?;
-    Ok(bytes)
-}
-
-fn sample(alloc: Global, script: &[u8]) -> Result<Vec<u8>, AllocError> {
-    with_program(alloc, &ECHO, script)
-}
-
 #[test]
 fn echoes_what_is_typed(rt: HostRuntime) -> Result<(), Fail> {
-    let input = sample(rt.alloc(), TYPED)?;
+    let input = sample_bytes(rt.alloc(), SAMPLE_SCRIPT)?;
     for read in [1, 2, 3, 4096] {
         let outside = Outside { read, ..AMPLE };
         assert!(rt;
@@ -146,11 +98,11 @@ fn echoes_what_is_typed(rt: HostRuntime) -> Result<(), Fail> {
                 &["run"],
                 &input,
                 outside,
-                (Status::Ok, REPORT, b"")
+                (Status::Ok, SAMPLE_REPORT, b"")
             )?
         );
     }
-    let none = sample(rt.alloc(), b"END 0\n")?;
+    let none = sample_bytes(rt.alloc(), b"END 0\n")?;
     assert!(rt;
         gives(
             rt.alloc(),
@@ -202,36 +154,43 @@ const READER_AND_DELETER: [&[u8]; 16] = [
     &[1, 4, 0, 0, 0, 0, 1, 2, 0, 18, 0, 0],
 ];
 
+// After three slots both processes are stopped, and the slots up to the last that there can be go by.
 #[test]
 fn stops_a_reader_whose_segment_is_deleted(rt: HostRuntime) -> Result<(), Fail> {
-    let mut input = Vec::new(rt.alloc());
-    for part in READER_AND_DELETER {
-        input.extend_from_slice(part)?;
-    }
-    input.extend_from_slice(b"END 3\n")?;
-    let report = b"C 1 0 1 007 000000 010400 000000 000001 000000 000000 yes 0
+    for (script, end) in [
+        (b"END 3\n".as_slice(), b"END 3 6 9 2\n".as_slice()),
+        (b"END 65535\n", b"END 65535 131070 9 2\n"),
+    ] {
+        let mut input = Vec::new(rt.alloc());
+        for part in READER_AND_DELETER {
+            input.extend_from_slice(part)?;
+        }
+        input.extend_from_slice(script)?;
+        let mut report = b"C 1 0 1 007 000000 010400 000000 000001 000000 000000 yes 0
 C 1 1 1 026 000000 000000 000000 000001 000000 000000 yes 0
 F 2 0 0 1 000000 stop
-END 3 6 9 2
-";
-    assert!(rt;
-        gives(
-            rt.alloc(),
-            &["run"],
-            &input,
-            AMPLE,
-            (Status::Ok, report, b"")
-        )?
-    );
+"
+            .to_vec(rt.alloc())?;
+        report.extend_from_slice(end)?;
+        assert!(rt;
+            gives(
+                rt.alloc(),
+                &["run"],
+                &input,
+                AMPLE,
+                (Status::Ok, &report, b"")
+            )?
+        );
+    }
     Ok(())
 }
 
 #[test]
 fn answers_no_where_nothing_is_typed(rt: HostRuntime) -> Result<(), Fail> {
-    let input = sample(rt.alloc(), b"0 0 6869\nEND 2\n")?;
+    let input = sample_bytes(rt.alloc(), b"0 0 6869\nEND 2\n")?;
     let mut report = Vec::new(rt.alloc());
     // The lines of slot 0 are the same.
-    for line in REPORT.split(|byte| *byte == b'\n').take(8) {
+    for line in SAMPLE_REPORT.split(|byte| *byte == b'\n').take(8) {
         report.extend_from_slice(line)?;
         report.push(b'\n')?;
     }
@@ -251,7 +210,7 @@ END 2 64 38 8
         )?
     );
     // The records of line 0 are those of the run in which bytes are typed on line 1 too.
-    for text in [report.as_slice(), REPORT] {
+    for text in [report.as_slice(), SAMPLE_REPORT] {
         let records = line_records(rt.alloc(), text, 0b01).ok().ok_or("memory")?;
         assert_eq!(rt;
             records.as_slice(),
@@ -263,7 +222,7 @@ END 2 64 38 8
 
 #[test]
 fn refuses_wrong_words(rt: HostRuntime) -> Result<(), Fail> {
-    let input = sample(rt.alloc(), TYPED)?;
+    let input = sample_bytes(rt.alloc(), SAMPLE_SCRIPT)?;
     for words in WRONG_WORDS {
         assert!(rt;
             gives(
@@ -313,7 +272,7 @@ fn tells_the_first_fault_of_an_image(rt: HostRuntime) -> Result<(), Fail> {
         (285, 8, b"image refused at 284: row\n"),
     ];
     for (place, byte, line) in rows {
-        let mut input = sample(alloc, TYPED)?;
+        let mut input = sample_bytes(alloc, SAMPLE_SCRIPT)?;
         if let Some(old) = input.get_mut(place) {
             *old = byte;
         }
@@ -328,7 +287,7 @@ fn tells_the_first_fault_of_an_image(rt: HostRuntime) -> Result<(), Fail> {
         );
     }
     // The image is cut short.
-    let whole = sample(alloc, b"")?;
+    let whole = sample_bytes(alloc, b"")?;
     for length in 0..290usize {
         let line = format!(in alloc; "image refused at {length}: end\n")?;
         let wanted = (Status::ImageRefused, b"".as_slice(), line.as_bytes());
@@ -375,7 +334,7 @@ fn tells_the_first_fault_of_a_script(rt: HostRuntime) -> Result<(), Fail> {
         ),
     ];
     for (script, line) in rows {
-        let input = sample(rt.alloc(), script)?;
+        let input = sample_bytes(rt.alloc(), script)?;
         assert!(rt;
             gives(
                 rt.alloc(),
@@ -428,7 +387,7 @@ fn keeps_64_bytes_of_a_record_of_65(rt: HostRuntime) -> Result<(), Fail> {
         script.extend_from_slice(digits.as_bytes())?;
     }
     script.extend_from_slice(b"\nEND 41\n")?;
-    let input = sample(rt.alloc(), &script)?;
+    let input = sample_bytes(rt.alloc(), &script)?;
     let report = report_of(rt.alloc(), &input)?;
     let records = line_records(rt.alloc(), &report, 0b01)
         .ok()
@@ -471,7 +430,7 @@ fn long_script(alloc: Global, first: u16) -> Result<Vec<u8>, AllocError> {
 fn reads_a_script_up_to_its_limit(rt: HostRuntime) -> Result<(), Fail> {
     let script = long_script(rt.alloc(), 10_000)?;
     assert_eq!(rt; script.len(), 1_048_577);
-    let input = sample(rt.alloc(), &script)?;
+    let input = sample_bytes(rt.alloc(), &script)?;
     assert!(rt;
         gives(
             rt.alloc(),
@@ -484,7 +443,7 @@ fn reads_a_script_up_to_its_limit(rt: HostRuntime) -> Result<(), Fail> {
     // One byte less is taken: the run begins, and ends as its output has room for one line alone.
     let script = long_script(rt.alloc(), 9_999)?;
     assert_eq!(rt; script.len(), 1_048_576);
-    let input = sample(rt.alloc(), &script)?;
+    let input = sample_bytes(rt.alloc(), &script)?;
     let line = b"C 0 2 0 020 000000 010400 000000 000000 000000 010400 no 9\n";
     let outside = Outside {
         room: line.len() as u32,
@@ -504,7 +463,7 @@ fn reads_a_script_up_to_its_limit(rt: HostRuntime) -> Result<(), Fail> {
 
 #[test]
 fn tells_a_read_fault(rt: HostRuntime) -> Result<(), Fail> {
-    let input = sample(rt.alloc(), TYPED)?;
+    let input = sample_bytes(rt.alloc(), SAMPLE_SCRIPT)?;
     // 314 bytes in pieces of 64 are five reads, and the sixth finds the end.
     for call in 0..6 {
         let outside = Outside {
@@ -527,8 +486,8 @@ fn tells_a_read_fault(rt: HostRuntime) -> Result<(), Fail> {
 
 #[test]
 fn leaves_a_front_of_the_report_at_a_write_fault(rt: HostRuntime) -> Result<(), Fail> {
-    let input = sample(rt.alloc(), TYPED)?;
-    for room in 0..REPORT.len() {
+    let input = sample_bytes(rt.alloc(), SAMPLE_SCRIPT)?;
+    for room in 0..SAMPLE_REPORT.len() {
         let outside = Outside {
             room: room as u32,
             ..AMPLE
@@ -539,7 +498,7 @@ fn leaves_a_front_of_the_report_at_a_write_fault(rt: HostRuntime) -> Result<(), 
                 &["run"],
                 &input,
                 outside,
-                (Status::WriteFault, &REPORT[..room], b"")
+                (Status::WriteFault, &SAMPLE_REPORT[..room], b"")
             )?
         );
     }
@@ -555,7 +514,7 @@ fn leaves_a_front_of_the_report_at_a_write_fault(rt: HostRuntime) -> Result<(), 
             &["run"],
             &input,
             outside,
-            (Status::WriteFault, &REPORT[..32], b"")
+            (Status::WriteFault, &SAMPLE_REPORT[..32], b"")
         )?
     );
     Ok(())

@@ -5,7 +5,7 @@ use Rattle.bk_report.specs.Text.{lines_of}
 use Rattle.bk_state.specs.State.{State}
 use Rattle.bk_state.specs.Start.{state_of}
 use Rattle.bk_system.specs.declared.script.TypedAt.{TypedAt}
-use Rattle.bk_system.specs.Slot.{slots_of}
+use Rattle.bk_system.specs.Loops.{slots_of}
 use Rattle.bk_system.specs.Report.{report_of}
 use Rattle.bk_replay.specs.Played.{after_slots, end_text, summary_of}
 use Rattle.bk_replay.proofs.Totals.{report_is, summary_exact}

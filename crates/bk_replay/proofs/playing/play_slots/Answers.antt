@@ -6,7 +6,8 @@ use Rattle.bk_script.specs.Script.{IsInOrder}
 use Rattle.bk_state.specs.State.{State}
 use Rattle.bk_system.specs.declared.script.TypedAt.{TypedAt}
 use Rattle.bk_system.specs.Step.{Step}
-use Rattle.bk_system.specs.Slot.{slot_of, slots_of, records_for}
+use Rattle.bk_system.specs.Loops.{slots_of}
+use Rattle.bk_system.specs.Slot.{slot_of, records_for}
 use Rattle.bk_kernel.specs.Progress.{Progress, next_slot, after_slot}
 use Rattle.bk_kernel.proofs.Lines.{lines_none, lines_more, lines_front}
 use Rattle.bk_replay.specs.Played.{count_front}
@@ -36,19 +37,19 @@ loop-slot-preserved g c =
     let a : Step = slots_of v typed k in
     let b : Step = slot_of k a.state (records_for k typed) in
     let part = parted k rest c.loop-slot.invariant.order c.loop-slot.invariant.from in
-    let records : c.split_at.result.0.now ≡ records_for k typed =
-    c.split_at.ensures.front ∙ ap (λ n. take n rest) c.count_front.ensures.count ∙ part.front ∙ c.loop-slot.invariant.same k (omega arith) in
-    let others : c.split_at.result.1.now ≡ drop (count_front k rest) rest = c.split_at.ensures.back ∙ ap (λ n. drop n rest) c.count_front.ensures.count in
-    let next : next_slot kernel c.split_at.result.0.now ≡ b = λ i. slot_of (c.loop-slot.invariant.slots i) (c.loop-slot.invariant.state i) (records i) in
-    let items : (next_slot kernel c.split_at.result.0.now).items ≡ b.items = ap (λ s. s.items) next in
+    let records : c.split_slot.result.0.now ≡ records_for k typed =
+    c.split_slot.ensures.front ∙ part.front ∙ c.loop-slot.invariant.same k (omega arith) in
+    let others : c.split_slot.result.1.now ≡ drop (count_front k rest) rest = c.split_slot.ensures.others in
+    let next : next_slot kernel c.split_slot.result.0.now ≡ b = λ i. slot_of (c.loop-slot.invariant.slots i) (c.loop-slot.invariant.state i) (records i) in
+    let items : (next_slot kernel c.split_slot.result.0.now).items ≡ b.items = ap (λ s. s.items) next in
     let few : kernel.slots + 1 < 2 ^ 32 = omega (arith, c.loop-slot.invariant.slots) in
     record {
       progress = c.in_ok-slot.ensures.after ∙ (λ i. after_slot (c.loop-slot.invariant.progress i) (records i)) ∙ sym (after_slots-next v typed k);
       state =
-          ap (λ p. p.state) c.in_ok-slot.ensures.after ∙ after_slot-state kernel c.split_at.result.0.now
+          ap (λ p. p.state) c.in_ok-slot.ensures.after ∙ after_slot-state kernel c.split_slot.result.0.now
           ∙ ap (λ s. s.state) next ∙ ap (λ s. s.state) (sym (slots_next v typed k));
-      slots = ap (λ p. p.slots) c.in_ok-slot.ensures.after ∙ after_slot-slots kernel c.split_at.result.0.now few ∙ ap (λ n. n + 1) c.loop-slot.invariant.slots;
-      fresh = ap (λ p. p.since) c.in_ok-slot.ensures.after ∙ after_slot-since kernel c.split_at.result.0.now;
+      slots = ap (λ p. p.slots) c.in_ok-slot.ensures.after ∙ after_slot-slots kernel c.split_slot.result.0.now few ∙ ap (λ n. n + 1) c.loop-slot.invariant.slots;
+      fresh = ap (λ p. p.since) c.in_ok-slot.ensures.after ∙ after_slot-since kernel c.split_slot.result.0.now;
       took = rw (slots_next v typed k, lines_more a.items b.items, ← items) (took_then _ _ _ _ _ _ _ _ c.loop-slot.invariant.took c.in_ok-slot.ensures.written);
       order = subst IsInOrder (sym others) part.order;
       from = subst (λ xs. From (k + 1) xs) (sym others) (subst (λ n. From n (drop (count_front k rest) rest)) (sym (add-one k)) part.from);
@@ -65,9 +66,9 @@ returns-in_err-slot-clause-failed g c =
     let a : Step = slots_of v typed k in
     let b : Step = slot_of k a.state (records_for k typed) in
     let part = parted k rest c.loop-slot.invariant.order c.loop-slot.invariant.from in
-    let records : c.split_at.result.0.now ≡ records_for k typed =
-    c.split_at.ensures.front ∙ ap (λ n. take n rest) c.count_front.ensures.count ∙ part.front ∙ c.loop-slot.invariant.same k (omega arith) in
-    let items : (next_slot kernel c.split_at.result.0.now).items ≡ b.items =
+    let records : c.split_slot.result.0.now ≡ records_for k typed =
+    c.split_slot.ensures.front ∙ part.front ∙ c.loop-slot.invariant.same k (omega arith) in
+    let items : (next_slot kernel c.split_slot.result.0.now).items ≡ b.items =
     (λ i. (slot_of (c.loop-slot.invariant.slots i) (c.loop-slot.invariant.state i) (records i)).items) in
     let front = slot_front v typed k c.args.script.now.slots c.loop-slot-test.true in
     let broke : Broke (g.O.Sink.taken c.args.out.now) (g.O.Sink.taken c.slot.new.out) (g.O.Sink.faults c.args.out.now) (g.O.Sink.faults c.slot.new.out) (lines_of (a.items ++ b.items)) =

@@ -2,7 +2,8 @@ use Rattle.std.proofs.Common.{◌≡◌, ◌≤◌, ℕ}
 use Rattle.bk_base.specs.Written.{Took}
 use Rattle.bk_report.specs.Text.{lines_of}
 use Rattle.bk_script.specs.Script.{IsInOrder}
-use Rattle.bk_system.specs.Slot.{slots_of, records_for}
+use Rattle.bk_system.specs.Loops.{slots_of}
+use Rattle.bk_system.specs.Slot.{records_for}
 use Rattle.bk_replay.specs.Played.{after_slots}
 use Rattle.bk_replay.proofs.Records.{From}
 use Rattle.bk_replay.proofs.playing.play_slots.Given as goal

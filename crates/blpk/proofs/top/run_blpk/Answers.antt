@@ -1,34 +1,32 @@
-use Rattle.std.proofs.Common.{◌≡◌, List, ℕ, Some, []}
-use Rattle.std.specs.Io.KnownBytes.{Appends}
-use Rattle.bk_base.specs.Outside.{Rose}
+use Rattle.std.proofs.Common.{◌≡◌}
+use Rattle.bk_base.specs.Written.{Took, Broke}
 use Rattle.blpk.specs.Words.{texts}
-use Rattle.bk_replay.specs.Replayed.{OfReport, TookPart}
-use Rattle.bk_replay.proofs.Answered.{some_map}
-use Rattle.bk_replay.proofs.Isolated.{isolated}
 use Rattle.blpk.proofs.Ended.{ok_of, write_of}
+use Rattle.blpk.proofs.Runs.{asked_isolated}
 use Rattle.blpk.proofs.top.run_blpk.Goals as goal
-
-pub returns-clause-write_fault : goal.returns-clause-write_fault
-returns-clause-write_fault g c =
-    write_of (texts c.args.words.now.items) (g.I.Source.left c.args.input.now) (g.I.Source.left c.perform-outcome.new.input)
-    (c.perform-outcome.new.input ≡ c.args.input.now) (c.perform-outcome.new.out ≡ c.args.out.now)
-    (Rose (g.I.Source.faults c.args.input.now) (g.I.Source.faults c.perform-outcome.new.input))
-    (Rose (g.O.Sink.faults c.args.out.now) (g.O.Sink.faults c.perform-outcome.new.out))
-    (Appends (g.O.Sink.taken c.args.out.now) (g.O.Sink.taken c.perform-outcome.new.out)) (TookPart (g.O.Sink.taken c.args.out.now) (g.O.Sink.taken c.perform-outcome.new.out))
-    (c.finish.new.err ≡ c.args.err.now) (Rose (g.E.Sink.faults c.args.err.now) (g.E.Sink.faults c.finish.new.err))
-    (Appends (g.E.Sink.taken c.args.err.now) (g.E.Sink.taken c.finish.new.err)) (TookPart (g.E.Sink.taken c.args.err.now) (g.E.Sink.taken c.finish.new.err))
-    c.finish.result c.perform-outcome.result c.perform-outcome.ensures c.finish.ensures
 
 pub returns-clause-isolated : goal.returns-clause-isolated
 returns-clause-isolated g c = λ fine.
-    let reported = ok_of (texts c.args.words.now.items) (g.I.Source.left c.args.input.now) (g.I.Source.left c.perform-outcome.new.input)
+    asked_isolated (texts c.args.words.now.items) (g.I.Source.state c.args.input.now) (g.I.Source.state c.perform-outcome.new.input)
+    (g.O.Sink.taken c.args.out.now) (g.O.Sink.taken c.perform-outcome.new.out)
+    (Took (g.O.Sink.taken c.args.out.now) (g.O.Sink.taken c.perform-outcome.new.out) (g.O.Sink.faults c.args.out.now) (g.O.Sink.faults c.perform-outcome.new.out))
+    (λ text t. t.bytes)
+    (ok_of (texts c.args.words.now.items) (g.I.Source.state c.args.input.now) (g.I.Source.state c.perform-outcome.new.input)
     (c.perform-outcome.new.input ≡ c.args.input.now) (c.perform-outcome.new.out ≡ c.args.out.now)
-    (Rose (g.I.Source.faults c.args.input.now) (g.I.Source.faults c.perform-outcome.new.input))
-    (Rose (g.O.Sink.faults c.args.out.now) (g.O.Sink.faults c.perform-outcome.new.out))
-    (Appends (g.O.Sink.taken c.args.out.now) (g.O.Sink.taken c.perform-outcome.new.out)) (TookPart (g.O.Sink.taken c.args.out.now) (g.O.Sink.taken c.perform-outcome.new.out))
-    (c.finish.new.err ≡ c.args.err.now) (Rose (g.E.Sink.faults c.args.err.now) (g.E.Sink.faults c.finish.new.err))
-    (Appends (g.E.Sink.taken c.args.err.now) (g.E.Sink.taken c.finish.new.err)) (TookPart (g.E.Sink.taken c.args.err.now) (g.E.Sink.taken c.finish.new.err))
-    c.finish.result c.perform-outcome.result c.perform-outcome.ensures c.finish.ensures fine in
-    isolated (g.I.Source.left c.args.input.now) (g.O.Sink.taken c.args.out.now) (g.O.Sink.taken c.perform-outcome.new.out)
-    (some_map (g.I.Source.left c.args.input.now) (λ bytes. (g.I.Source.left c.perform-outcome.new.input ≡ Some []) × OfReport (Appends (g.O.Sink.taken c.args.out.now) (g.O.Sink.taken c.perform-outcome.new.out)) bytes)
-    (OfReport (Appends (g.O.Sink.taken c.args.out.now) (g.O.Sink.taken c.perform-outcome.new.out))) (λ bytes x. x.1) reported.0)
+    (Took (g.O.Sink.taken c.args.out.now) (g.O.Sink.taken c.perform-outcome.new.out) (g.O.Sink.faults c.args.out.now) (g.O.Sink.faults c.perform-outcome.new.out))
+    (Broke (g.O.Sink.taken c.args.out.now) (g.O.Sink.taken c.perform-outcome.new.out) (g.O.Sink.faults c.args.out.now) (g.O.Sink.faults c.perform-outcome.new.out))
+    (c.finish.new.err ≡ c.args.err.now)
+    (Took (g.E.Sink.taken c.args.err.now) (g.E.Sink.taken c.finish.new.err) (g.E.Sink.faults c.args.err.now) (g.E.Sink.faults c.finish.new.err))
+    (Broke (g.E.Sink.taken c.args.err.now) (g.E.Sink.taken c.finish.new.err) (g.E.Sink.faults c.args.err.now) (g.E.Sink.faults c.finish.new.err))
+    c.finish.result c.perform-outcome.result c.perform-outcome.ensures.performed c.finish.ensures fine).0.1
+
+pub returns-clause-write_fault : goal.returns-clause-write_fault
+returns-clause-write_fault g c =
+    write_of (texts c.args.words.now.items) (g.I.Source.state c.args.input.now) (g.I.Source.state c.perform-outcome.new.input)
+    (c.perform-outcome.new.input ≡ c.args.input.now) (c.perform-outcome.new.out ≡ c.args.out.now)
+    (Took (g.O.Sink.taken c.args.out.now) (g.O.Sink.taken c.perform-outcome.new.out) (g.O.Sink.faults c.args.out.now) (g.O.Sink.faults c.perform-outcome.new.out))
+    (Broke (g.O.Sink.taken c.args.out.now) (g.O.Sink.taken c.perform-outcome.new.out) (g.O.Sink.faults c.args.out.now) (g.O.Sink.faults c.perform-outcome.new.out))
+    (c.finish.new.err ≡ c.args.err.now)
+    (Took (g.E.Sink.taken c.args.err.now) (g.E.Sink.taken c.finish.new.err) (g.E.Sink.faults c.args.err.now) (g.E.Sink.faults c.finish.new.err))
+    (Broke (g.E.Sink.taken c.args.err.now) (g.E.Sink.taken c.finish.new.err) (g.E.Sink.faults c.args.err.now) (g.E.Sink.faults c.finish.new.err))
+    c.finish.result c.perform-outcome.result c.perform-outcome.ensures.performed c.finish.ensures

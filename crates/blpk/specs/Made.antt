@@ -1,0 +1,75 @@
+-- What each command makes of the bytes that it reads.
+use Rattle.std.specs.Prelude.{◌≡◌, ℕ, List, Option, Some, None, Result, Ok, Err}
+use Rattle.bk_image.specs.declared.fault.ImageFault.{ImageFault}
+use Rattle.bk_image.specs.Image.{image_of}
+use Rattle.bk_script.specs.declared.fault.ScriptFault.{ScriptFault}
+use Rattle.bk_state.specs.declared.image.Image.{Image}
+use Rattle.bk_system.specs.declared.script.TypedAt.{TypedAt}
+use Rattle.bk_system.specs.Report.{report_of}
+use Rattle.bk_replay.specs.Replayed as replayed
+use Rattle.bk_replay.specs.Replayed.{script_after}
+use Rattle.bk_replay.specs.Isolated.{IsIsolated}
+use Rattle.blpk.specs.Words.{command_of}
+use Rattle.blpk.specs.declared.words.Command.{Command}
+use Rattle.blpk.specs.declared.words.Command.TheVariants.{Run}
+use Rattle.blpk.specs.declared.outcome.Refusal.{Refusal}
+use Rattle.blpk.specs.declared.outcome.Refusal.TheVariants as refusal
+use Rattle.blpk.specs.declared.status.Status.{Status}
+use Rattle.blpk.specs.declared.status.Status.TheVariants as status
+
+-- the status of a refusal; its line is in `Lines`
+abbrev pub status_of : Refusal → Status
+status_of (refusal.Image fault) = status.ImageRefused
+status_of (refusal.Script fault) = status.ScriptRefused
+
+-- ---- run
+
+-- the report, or the refusal of what follows the image
+abbrev pub by_script : Image → Result (List TypedAt × ℕ) ScriptFault → Result (List ℕ) Refusal
+by_script image (Ok script) = Ok (report_of image script.0 script.1)
+by_script image (Err fault) = Err (refusal.Script fault)
+
+-- the same, or the refusal where no image is a prefix of the bytes
+abbrev pub by_image : List ℕ → Result (Image × ℕ) ImageFault → Result (List ℕ) Refusal
+by_image bytes (Ok image) = by_script image.0 (script_after image.0 image.1 bytes)
+by_image bytes (Err fault) = Err (refusal.Image fault)
+
+-- ---- all commands
+
+-- the most bytes that a command reads
+abbrev pub most_read : Command → ℕ
+most_read Run = replayed.most_read
+
+-- from the bytes that a command read, the bytes to write, or why they are refused: `run` makes the report of the image and the
+-- script that they are
+abbrev pub made_of : Command → (bytes : List ℕ) → Result (List ℕ) Refusal
+made_of Run bytes = by_image bytes (image_of bytes)
+
+-- what isolation says of a command's output: `run` writes line records that don't tell of bytes typed elsewhere
+abbrev pub IsIsolatedFor : (before after : Option (List ℕ)) → Command → (bytes : List ℕ) → Type 0
+IsIsolatedFor before after Run bytes = IsIsolated before after bytes
+
+-- ---- what the words ask for
+
+-- the most bytes that are read for a command, and none where there is none
+abbrev pub most_for : Option Command → ℕ
+most_for (Some command) = most_read command
+most_for None = 0
+
+-- the most bytes that are read for the words
+abbrev pub most_for_words : (words : List (List ℕ)) → ℕ
+most_for_words words = most_for (command_of words)
+
+-- the status of what is made
+abbrev pub status_made : Result (List ℕ) Refusal → Status
+status_made (Ok text) = status.Ok
+status_made (Err refusal) = status_of refusal
+
+-- the status that a command asks for, and that of no command
+abbrev pub by_command : Option Command → List ℕ → Status
+by_command (Some command) bytes = status_made (made_of command bytes)
+by_command None bytes = status.Usage
+
+-- the status that the words and the bytes read ask for
+abbrev pub expected : (words : List (List ℕ)) (bytes : List ℕ) → Status
+expected words bytes = by_command (command_of words) bytes
