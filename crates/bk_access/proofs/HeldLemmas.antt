@@ -9,7 +9,7 @@ use Rattle.std.specs.FinMap.{IsAntisymmetric, nat_cmp-IsAntisymmetric}
 use Rattle.std.proofs.lemmas.Bool.Decides.{nat_tests}
 use Rattle.std.proofs.Math.Bool.{and-false, and-true, or-false}
 use Rattle.bk_object.specs.declared.modes.Modes.{Modes}
-use Rattle.bk_object.specs.Modes.{Mode, Read, Execute, Write, Append, has, no_modes, union, without}
+use Rattle.bk_object.specs.Modes.{AccessMode, Read, Execute, Write, Append, has, no_modes, union, without}
 use Rattle.bk_object.proofs.ModeLemmas.{has-union, has-without}
 use Rattle.bk_access.specs.Held.{key_cmp, Held, modes_at, holds, nothing_held, with_modes, added, removed, cleared}
 
@@ -103,13 +103,13 @@ elsewhere-cleared slot s k held other = modes_at-cleared slot held s k ∙ ap (�
 pub at-nothing : (slots s k : ℕ) → modes_at (nothing_held slots) s k ≡ no_modes
 at-nothing slots s k = ap (λ found. unwrap_or found no_modes) (map.get-empty key_cmp (s, k))
 
-has-none : (mode : Mode) → has no_modes mode ≡ false
+has-none : (mode : AccessMode) → has no_modes mode ≡ false
 has-none Read = refl
 has-none Execute = refl
 has-none Write = refl
 has-none Append = refl
 
-pub holds-nothing : (slots s k : ℕ) (mode : Mode) → holds (nothing_held slots) s k mode ≡ false
+pub holds-nothing : (slots s k : ℕ) (mode : AccessMode) → holds (nothing_held slots) s k mode ≡ false
 holds-nothing slots s k mode = ap (λ modes. has modes mode) (at-nothing slots s k) ∙ has-none mode
 
 -- where a test of the key holds, the modes at the key are those at the one that was changed
@@ -124,7 +124,7 @@ moved subject slot s k held same = by (s == subject) (k == slot) refl refl same
     by true false e f same = cc
     by false b e f same = cc
 
-pub holds-added : (subject slot s k : ℕ) (modes : Modes) (held : Held) (mode : Mode) →
+pub holds-added : (subject slot s k : ℕ) (modes : Modes) (held : Held) (mode : AccessMode) →
     holds (added subject slot modes held) s k mode ≡ (holds held s k mode || (((s == subject) && (k == slot)) && has modes mode))
 holds-added subject slot s k modes held mode =
     ap (λ set. has set mode) (modes_at-with_modes subject slot (union (modes_at held subject slot) modes) held s k) ∙ by ((s == subject) && (k == slot)) refl
@@ -133,7 +133,7 @@ holds-added subject slot s k modes held mode =
     by true same = has-union (modes_at held subject slot) modes mode ∙ ap (λ set. has set mode || has modes mode) (moved subject slot s k held same)
     by false other = sym (or-false (holds held s k mode))
 
-pub holds-removed : (subject slot s k : ℕ) (modes : Modes) (held : Held) (mode : Mode) →
+pub holds-removed : (subject slot s k : ℕ) (modes : Modes) (held : Held) (mode : AccessMode) →
     holds (removed subject slot modes held) s k mode ≡ (holds held s k mode && not (((s == subject) && (k == slot)) && has modes mode))
 holds-removed subject slot s k modes held mode =
     ap (λ set. has set mode) (modes_at-with_modes subject slot (without (modes_at held subject slot) modes) held s k) ∙ by ((s == subject) && (k == slot)) refl
@@ -142,7 +142,7 @@ holds-removed subject slot s k modes held mode =
     by true same = has-without (modes_at held subject slot) modes mode ∙ ap (λ set. has set mode && not (has modes mode)) (moved subject slot s k held same)
     by false other = sym (and-true (holds held s k mode))
 
-pub holds-cleared : (slot s k : ℕ) (held : Held) (mode : Mode) → holds (cleared slot held) s k mode ≡ (holds held s k mode && not (k == slot))
+pub holds-cleared : (slot s k : ℕ) (held : Held) (mode : AccessMode) → holds (cleared slot held) s k mode ≡ (holds held s k mode && not (k == slot))
 holds-cleared slot s k held mode = ap (λ set. has set mode) (modes_at-cleared slot held s k) ∙ by (k == slot)
   where
     by : (b : Bool) → has (cond b no_modes (modes_at held s k)) mode ≡ (holds held s k mode && not b)

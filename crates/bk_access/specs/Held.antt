@@ -6,7 +6,7 @@ use Rattle.std.specs.declared.cmp.Ordering.{Ordering}
 use Rattle.std.specs.Option.{unwrap_or}
 use Rattle.std.specs.FinMap as map
 use Rattle.bk_object.specs.declared.modes.Modes.{Modes}
-use Rattle.bk_object.specs.Modes.{Mode, has, no_modes, union, without}
+use Rattle.bk_object.specs.Modes.{AccessMode, has, no_modes, union, without}
 
 -- who, and the slot of what
 abbrev pub Key : Type 0
@@ -26,7 +26,7 @@ abbrev pub modes_at : Held → (subject slot : ℕ) → Modes
 modes_at held subject slot = unwrap_or (map.get held.modes (subject, slot)) no_modes
 
 -- the subject holds the slot's object by the mode
-abbrev pub holds : Held → (subject slot : ℕ) → Mode → Bool
+abbrev pub holds : Held → (subject slot : ℕ) → AccessMode → Bool
 holds held subject slot mode = has (modes_at held subject slot) mode
 
 -- no subject holds anything

@@ -1,7 +1,7 @@
 // What the changes of the current access set say at each subject and slot.
 
 ghost use Rattle.std.specs.Prelude.{◌≡◌, ℕ, ◌==◌, ◌&&◌, ◌||◌, not, false};
-ghost use Rattle.bk_object.specs.Modes.{Mode, has, no_modes, union, without};
+ghost use Rattle.bk_object.specs.Modes.{AccessMode, has, no_modes, union, without};
 ghost use Rattle.bk_object.specs.declared.modes.Modes.{Modes};
 ghost use Rattle.bk_access.specs.Held.{Held, added, cleared, holds, modes_at, nothing_held, removed};
 
@@ -19,8 +19,8 @@ pub fn law_held()
 
 /// Who holds what, one mode at a time, as a set of triples: what is added joins it, and what is removed or cleared leaves it.
 pub fn law_holds()
-    ensures nothing { (slots s k : ℕ) (mode : Mode) → holds (nothing_held slots) s k mode ≡ false }
-    ensures added { (subject slot s k : ℕ) (modes : Modes) (held : Held) (mode : Mode) → holds (added subject slot modes held) s k mode ≡ (holds held s k mode || (((s == subject) && (k == slot)) && has modes mode)) }
-    ensures removed { (subject slot s k : ℕ) (modes : Modes) (held : Held) (mode : Mode) → holds (removed subject slot modes held) s k mode ≡ (holds held s k mode && not (((s == subject) && (k == slot)) && has modes mode)) }
-    ensures cleared { (slot s k : ℕ) (held : Held) (mode : Mode) → holds (cleared slot held) s k mode ≡ (holds held s k mode && not (k == slot)) }
+    ensures nothing { (slots s k : ℕ) (mode : AccessMode) → holds (nothing_held slots) s k mode ≡ false }
+    ensures added { (subject slot s k : ℕ) (modes : Modes) (held : Held) (mode : AccessMode) → holds (added subject slot modes held) s k mode ≡ (holds held s k mode || (((s == subject) && (k == slot)) && has modes mode)) }
+    ensures removed { (subject slot s k : ℕ) (modes : Modes) (held : Held) (mode : AccessMode) → holds (removed subject slot modes held) s k mode ≡ (holds held s k mode && not (((s == subject) && (k == slot)) && has modes mode)) }
+    ensures cleared { (slot s k : ℕ) (held : Held) (mode : AccessMode) → holds (cleared slot held) s k mode ≡ (holds held s k mode && not (k == slot)) }
 {}

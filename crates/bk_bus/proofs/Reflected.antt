@@ -11,7 +11,7 @@ use Rattle.bk_process.specs.declared.process.Process.{Process}
 use Rattle.bk_state.specs.State.{State}
 use Rattle.bk_store.specs.Stored.{Stored}
 use Rattle.bk_store.specs.Stands.{StandsFor}
-use Rattle.bk_system.specs.Turn.{completes, is_writable, less, pushed, with_pushes}
+use Rattle.bk_system.specs.Turn.{completes, is_writable, less, with_push, with_pushes}
 use Rattle.bk_bus.specs.Turning.{shown_in, turning}
 use Rattle.bk_bus.proofs.Alike.{shown-space}
 
@@ -37,6 +37,6 @@ module _ (store : Stored) (words : List ℕ) (s : ℕ) (windows : List (Option P
 
 -- the state after both pushes, by the windows of the process
 pub pushed-stand : (store : Stored) (words : List ℕ) (a b : List (Option Path)) (n : ℕ) (p : Process) (v : State) → b ≡ a → p.windows ≡ a → n ≡ word_of p.registers.ps →
-    StandsFor store words (pushed b (less p.registers.supervisor 4) p.registers.pc (pushed a (less p.registers.supervisor 2) n v)) → StandsFor store words (with_pushes v p)
+    StandsFor store words (with_push b (less p.registers.supervisor 4) p.registers.pc (with_push a (less p.registers.supervisor 2) n v)) → StandsFor store words (with_pushes v p)
 pushed-stand store words a b n p v same of_process is =
-    subst (λ (x : State). StandsFor store words x) (λ i. pushed ((same ∙ sym of_process) i) (less p.registers.supervisor 4) p.registers.pc (pushed (sym of_process i) (less p.registers.supervisor 2) (is i) v))
+    subst (λ (x : State). StandsFor store words x) (λ i. with_push ((same ∙ sym of_process) i) (less p.registers.supervisor 4) p.registers.pc (with_push (sym of_process i) (less p.registers.supervisor 2) (is i) v))

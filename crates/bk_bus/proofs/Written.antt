@@ -5,15 +5,14 @@ use Rattle.std.specs.FinMap as finite
 use Rattle.bk_space.specs.AddrSpace.{Write, offset_of, page_at, page_number, refusal, unless}
 use Rattle.bk_space.specs.declared.reference.Mode.{Mode}
 use Rattle.bk_space.specs.declared.reference.Space.{Space}
-use Rattle.bk_space.specs.declared.reference.Width.{Width}
-use Rattle.bk_space.specs.declared.reference.Width.TheVariants.{Word, Byte}
 use Rattle.bk_path.specs.Paths.{Path}
 use Rattle.bk_state.specs.State.{State, Object, Contents, Children, Words, Messages, Typed}
 use Rattle.bk_state.specs.Contents.{with_contents, with_word}
 use Rattle.bk_state.specs.RowCalls.{changed_by}
-use Rattle.bk_store.specs.Stored.{Stored, objects_of, word_at, word_of, written as word_written, written_by as word_written_by}
+use Rattle.bk_store.specs.Stored.{Stored, objects_of, word_at, word_of, word_written, word_written_by}
 use Rattle.bk_system.specs.Turn.{stored_in, written, written_by}
 use Rattle.bk_space.specs.Parts.{merged}
+use Rattle.bk_space.specs.declared.reference.Width.{Width}
 use Rattle.bk_bus.specs.Turning.{Turning, after_write, state_in, turning, shown_in, words_in, words_of, Locates}
 
 -- a word of an object is that of its words
@@ -42,11 +41,7 @@ fetched t mode space width addr path r there passes is =
 -- the contents once the merged word stands in its place are those of the write
 merged-stored : (w : Write) (c : Contents) → with_word (offset_of w.addr / 2) (merged w.width w.addr w.value (word_of (offset_of w.addr / 2) c)) c ≡ stored_in w c
 merged-stored w Children = refl
-merged-stored w (Words words) = by w.width
-  where
-    by : (width : Width) → with_word (offset_of w.addr / 2) (merged width w.addr w.value (word_of (offset_of w.addr / 2) (Words words))) (Words words) ≡ stored_in (record w { width = width }) (Words words)
-    by Word = refl
-    by Byte = refl
+merged-stored w (Words words) = refl
 merged-stored w (Messages waiting lost) = refl
 merged-stored w (Typed bytes) = refl
 

@@ -11,7 +11,7 @@ use Rattle.bk_object.specs.Limits.{bytes_of_block, words_of_block}
 use Rattle.bk_path.specs.Paths.{Path, path_cmp}
 use Rattle.bk_state.specs.State.{State, Object, Contents, Children, Words, Messages, Typed}
 use Rattle.bk_store.specs.Stored.{Stored, HasOffset, objects_of}
-use Rattle.bk_store.specs.Joined.{kernel_blocks}
+use Rattle.bk_core.specs.Memory.{kernel_blocks}
 use Rattle.bk_system.specs.Space.{space_of}
 use Rattle.bk_system.specs.Turn.{written}
 
@@ -59,6 +59,7 @@ after_write t w = record t { objects = (written t.windows (state_in t) w).object
 abbrev pub shown_lent : Lent → AddrSpace
 shown_lent l = shown_in l.turning
 
+-- what the bus lends, after a write
 abbrev pub after_lent : Lent → Write → Lent
 after_lent l w = record l { turning = after_write l.turning w }
 
@@ -76,6 +77,7 @@ words_of (Words words) = words
 words_of (Messages waiting lost) = []
 words_of (Typed bytes) = []
 
+-- the words of the object, if there is one; of none there are none
 abbrev pub words_in : Option Object → List ℕ
 words_in None = []
 words_in (Some object) = words_of object.contents

@@ -3,7 +3,7 @@
 ghost use Rattle.std.specs.Prelude.{◌*◌, ◌≡◌, ◌<◌, ◌≤◌, take, slice_index, if◌then◌else◌};
 ghost use Rattle.bk_object.specs.Rows.{most_subjects};
 ghost use Rattle.bk_object.specs.Limits.{words_of_block};
-ghost use Rattle.bk_store.specs.Joined.{kernel_blocks};
+ghost use Rattle.bk_core.specs.Memory.{kernel_blocks};
 ghost use Rattle.bk_process.specs.declared.status.Status9.TheVariants.{Stopped};
 ghost use Rattle.bk_state.specs.State.{State};
 ghost use Rattle.bk_store.specs.Stands.{StandsFor};

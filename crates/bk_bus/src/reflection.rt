@@ -3,7 +3,7 @@
 ghost use Rattle.std.specs.Prelude.{◌*◌, ◌≡◌, ◌<◌, ◌&&◌, ◌==◌, not, take, is_some, IfSome, if◌then◌else◌};
 ghost use Rattle.bk_object.specs.Rows.{most_subjects};
 ghost use Rattle.bk_object.specs.Limits.{words_of_block};
-ghost use Rattle.bk_store.specs.Joined.{kernel_blocks};
+ghost use Rattle.bk_core.specs.Memory.{kernel_blocks};
 ghost use Rattle.bk_state.specs.State.{State};
 ghost use Rattle.bk_store.specs.Stands.{StandsFor};
 ghost use Rattle.bk_system.specs.Turn.{entered, is_reflected, is_user, is_writable, less, with_pushes};

@@ -7,22 +7,22 @@ use Rattle.bk_quota.specs.Charges.{passes}
 use Rattle.bk_state.specs.State.{Object, facts_at, find}
 use Rattle.bk_state.specs.Contents.{with_contents, with_word}
 use Rattle.bk_state.specs.RowCalls.{changed_at, changed_by}
-use Rattle.bk_store.specs.Stored.{Stored, facts_in, objects_of, written, written_by}
+use Rattle.bk_store.specs.Stored.{Stored, facts_in, objects_of, word_written, word_written_by}
 use Rattle.bk_calls.specs.declared.caller.Caller.{Caller}
 use Rattle.bk_calls.specs.Made.{seen_by}
 use Rattle.bk_calls.proofs.Seen.{facts-seen}
 use Rattle.bk_calls.proofs.Served.{Moved, changed-access}
 
 module _ (caller : Caller) (store : Stored) (words : List ℕ) where
-  written-object : (path : Path) (place word : ℕ) → written path place word (objects_of store words) ≡ (changed_at (seen_by caller store words) path (with_contents (with_word place word))).objects
+  written-object : (path : Path) (place word : ℕ) → word_written path place word (objects_of store words) ≡ (changed_at (seen_by caller store words) path (with_contents (with_word place word))).objects
   written-object path place word = by (find (seen_by caller store words) path)
     where
-      by : (o : Option Object) → written_by (objects_of store words) path place word o ≡ (changed_by (seen_by caller store words) path (with_contents (with_word place word)) o).objects
+      by : (o : Option Object) → word_written_by (objects_of store words) path place word o ≡ (changed_by (seen_by caller store words) path (with_contents (with_word place word)) o).objects
       by None = refl
       by (Some o) = refl
 
   -- the word written is that of the state
-  pub deposit-moved : (words_after : List ℕ) (asked path : Path) → asked ≡ path → (place word : ℕ) → objects_of store words_after ≡ written path place word (objects_of store words) →
+  pub deposit-moved : (words_after : List ℕ) (asked path : Path) → asked ≡ path → (place word : ℕ) → objects_of store words_after ≡ word_written path place word (objects_of store words) →
       Moved store store words words_after (changed_at (seen_by caller store words) asked (with_contents (with_word place word)))
   deposit-moved words_after asked path same place word is = record {
     objects = is ∙ written-object path place word ∙ ap (λ p. (changed_at (seen_by caller store words) p (with_contents (with_word place word))).objects) (sym same);

@@ -14,7 +14,9 @@ use Rattle.bk_quota.specs.Charges.{passes}
 use Rattle.bk_state.specs.State.{Object, Messages, find}
 use Rattle.bk_state.specs.Contents.{has_message, put, without_message}
 use Rattle.bk_state.specs.QueueCalls.{message_values, of_contents}
-use Rattle.bk_store.specs.Stored.{Entry, Queue, NoQueue, OfMailbox, OfLine, Stored, Waiting, contents_in, message_at, message_in, object_of, oldest, oldest_from, facts_in, received, received_from, sent, waiting_in, with_mail, with_queue, without_message as without_mail}
+use Rattle.bk_store.specs.Stored.{Entry, Queue, NoQueue, OfMailbox, OfLine, Stored, Waiting, contents_in, message_at, message_in, object_of, oldest}
+use Rattle.bk_store.specs.Stored.{oldest_from, facts_in, received, received_from, sent, waiting_in, with_mail, with_queue}
+use Rattle.bk_store.specs.Stored.{without_message as without_mail}
 use Rattle.bk_store.specs.Joined.{FitsKind, HaveKinds}
 use Rattle.bk_store.proofs.Stands.{get-objects_of}
 use Rattle.bk_calls.specs.declared.caller.Caller.{Caller}

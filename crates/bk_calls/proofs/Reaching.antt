@@ -14,8 +14,8 @@ use Rattle.bk_state.specs.Request.{path_in, request_in}
 use Rattle.bk_state.specs.Calls.{call_fails, service_call}
 use Rattle.bk_state.specs.declared.call.Call.TheVariants.{Other}
 use Rattle.bk_state.specs.declared.call.Service.{Service}
-use Rattle.bk_state.specs.declared.cause.Cause.{Cause}
-use Rattle.bk_state.specs.declared.cause.Cause.TheVariants.{NoPath, BadArgument, NotNamed, NoObject, WrongKind, NotHeld}
+use Rattle.bk_state.specs.declared.cause.CallCause.{CallCause}
+use Rattle.bk_state.specs.declared.cause.CallCause.TheVariants.{NoPath, BadArgument, NotNamed, NoObject, WrongKind, NotHeld}
 use Rattle.bk_store.specs.Stored.{Stored, facts_in, holds as holds_in}
 use Rattle.bk_calls.specs.Made.{seen_by}
 use Rattle.bk_calls.specs.Reached.{front_refusal, is_of, modes_in, Suits}
@@ -36,19 +36,19 @@ no_mode true of = refl
 no_mode false of = refl
 
 -- the checks after each
-abbrev from_held : List Cause
+abbrev from_held : List CallCause
 from_held = NotHeld ∷ []
 
-abbrev from_kind : List Cause
+abbrev from_kind : List CallCause
 from_kind = WrongKind ∷ from_held
 
-abbrev from_object : List Cause
+abbrev from_object : List CallCause
 from_object = NoObject ∷ from_kind
 
-abbrev from_named : List Cause
+abbrev from_named : List CallCause
 from_named = NotNamed ∷ from_object
 
-abbrev from_argument : List Cause
+abbrev from_argument : List CallCause
 from_argument = BadArgument ∷ from_named
 
 -- the words are no path
@@ -61,7 +61,7 @@ module _ (caller : Caller) (store : Stored) (words : List ℕ) (asked : Asked) (
   abbrev seen : State
   seen = seen_by caller store words
 
-  abbrev fails : Cause → Bool
+  abbrev fails : CallCause → Bool
   fails = call_fails seen caller.subject (Other service) general
 
   -- the object is of the service's kind, and none of its modes is asked for

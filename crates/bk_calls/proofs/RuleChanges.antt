@@ -17,13 +17,13 @@ use Rattle.bk_state.specs.KernelCall.{fails}
 use Rattle.bk_state.specs.AccessCalls.{without_triples}
 use Rattle.bk_state.specs.RowCalls.{changed_by, with_row}
 use Rattle.bk_state.specs.Calls.{call_refusal, changed, refusal, rule_call, rule_checks}
-use Rattle.bk_state.specs.declared.cause.Cause.{Cause}
+use Rattle.bk_state.specs.declared.cause.CallCause.{CallCause}
 use Rattle.bk_state.specs.Answers.{outcome, reply, with_values}
 use Rattle.bk_state.specs.declared.call.Call.TheVariants.{ByRule}
 use Rattle.bk_state.specs.declared.rule.Rule.{Rule}
 use Rattle.bk_state.specs.declared.rule.Rule.TheVariants.{GetRead, GetAppend, GetExecute, GetWrite, Release, Give, Rescind, Create, DeleteGroup}
 use Rattle.bk_store.specs.Stored.{Entry, Stored, IsThere, with_held, without_held, with_given, with_rescinded, without_group}
-use Rattle.bk_store.specs.Joined.{kernel_blocks}
+use Rattle.bk_core.specs.Memory.{kernel_blocks}
 use Rattle.bk_store.specs.Stands.{StandsFor}
 use Rattle.bk_store.proofs.Stands.{stands-held, stands-released, stands-given, stands-rescinded, stands-deleted}
 use Rattle.bk_calls.specs.Made.{line_byte, seen_by, made_by, IsMade}
@@ -69,11 +69,11 @@ changed-fixed v s Create request = refl
 changed-fixed v s DeleteGroup request = refl
 
 -- each of the checks passes
-abbrev pub AllPass : (Cause → Bool) → List Cause → Type 0
+abbrev pub AllPass : (CallCause → Bool) → List CallCause → Type 0
 AllPass f [] = Unit {0}
 AllPass f (cause ∷ causes) = (f cause ≡ false) × AllPass f causes
 
-all-pass : (f : Cause → Bool) (causes : List Cause) → first f causes ≡ None → AllPass f causes
+all-pass : (f : CallCause → Bool) (causes : List CallCause) → first f causes ≡ None → AllPass f causes
 all-pass f [] none = tt
 all-pass f (cause ∷ causes) none = by (f cause) refl none (all-pass f causes)
   where
@@ -85,7 +85,7 @@ module _ (caller : Caller) (store : Stored) (words general : List ℕ) (rule : R
   abbrev v : State
   v = seen_by caller store words
 
-  both_none : (a b : Bool) (later : Option Cause) → refusal_after a b later ≡ None → (b ≡ false) × (later ≡ None)
+  both_none : (a b : Bool) (later : Option CallCause) → refusal_after a b later ≡ None → (b ≡ false) × (later ≡ None)
   both_none true b later e = cc
   both_none false true later e = cc
   both_none false false later e = (refl, e)

@@ -10,8 +10,8 @@ use Rattle.bk_state.specs.Request.{Request, request_in}
 use Rattle.bk_state.specs.TreeCalls.{is_no_object}
 use Rattle.bk_state.specs.Calls.{call_refusal, refusal, rule_call}
 use Rattle.bk_state.specs.declared.call.Call.TheVariants.{ByRule}
-use Rattle.bk_state.specs.declared.cause.Cause.{Cause}
-use Rattle.bk_state.specs.declared.cause.Cause.TheVariants.{NoPath, BadArgument}
+use Rattle.bk_state.specs.declared.cause.CallCause.{CallCause}
+use Rattle.bk_state.specs.declared.cause.CallCause.TheVariants.{NoPath, BadArgument}
 use Rattle.bk_state.specs.declared.rule.Rule.{Rule}
 use Rattle.bk_state.specs.declared.rule.Rule.TheVariants.{GetRead, GetAppend, GetExecute, GetWrite, Release, Give, Rescind, Create, DeleteGroup}
 use Rattle.bk_calls.specs.Decided.{facts_there}
@@ -44,7 +44,7 @@ none-wrong v Create general h = cc
 none-wrong v DeleteGroup general h = refl
 
 -- the first of all checks that fails, by whether the first two do
-abbrev pub refusal_after : (no_path wrong : Bool) → Option Cause → Option Cause
+abbrev pub refusal_after : (no_path wrong : Bool) → Option CallCause → Option CallCause
 refusal_after true wrong later = Some NoPath
 refusal_after false true later = Some BadArgument
 refusal_after false false later = later
@@ -54,11 +54,11 @@ module _ (v : State) (s : ℕ) (general : List ℕ) where
   no_path = is_none (unpack (slice_index general 1) (slice_index general 2))
 
   -- a rule without arguments has none outside their ranges
-  plain : (later : Option Cause) (b : Bool) → (if b then Some NoPath else later) ≡ refusal_after b false later
+  plain : (later : Option CallCause) (b : Bool) → (if b then Some NoPath else later) ≡ refusal_after b false later
   plain later true = refl
   plain later false = refl
 
-  bounded : (later : Option Cause) (b wrong : Bool) → (if b then Some NoPath else (if wrong then Some BadArgument else later)) ≡ refusal_after b wrong later
+  bounded : (later : Option CallCause) (b wrong : Bool) → (if b then Some NoPath else (if wrong then Some BadArgument else later)) ≡ refusal_after b wrong later
   bounded later true wrong = refl
   bounded later false true = refl
   bounded later false false = refl

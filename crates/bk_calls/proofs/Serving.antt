@@ -7,8 +7,8 @@ use Rattle.bk_state.specs.declared.call.Call.TheVariants.{Other}
 use Rattle.bk_state.specs.declared.call.Service.{Service}
 use Rattle.bk_state.specs.declared.call.Service.TheVariants.{Window, Unwindow, Deposit, Send, Receive, LineOut, LineIn, Entry, Identify, Quota}
 use Rattle.bk_state.specs.declared.call.Service.TheVariants.{Pause, SetFaultEntry, Stop}
-use Rattle.bk_state.specs.declared.cause.Cause.{Cause}
-use Rattle.bk_state.specs.declared.cause.Cause.TheVariants.{TooLong, Empty}
+use Rattle.bk_state.specs.declared.cause.CallCause.{CallCause}
+use Rattle.bk_state.specs.declared.cause.CallCause.TheVariants.{TooLong, Empty}
 use Rattle.bk_state.specs.Causes.{answer_number, cause_number}
 use Rattle.bk_state.specs.Calls.{call_fails, call_refusal}
 use Rattle.bk_state.specs.Answers.{answered_by, answered_yes, with_values}
@@ -38,7 +38,7 @@ first-early f (a ∷ early) late x some = by (f a) some (first-early f early lat
     by false e rest = rest e
 
 -- the last check of a service
-abbrev pub last_check : Service → List Cause
+abbrev pub last_check : Service → List CallCause
 last_check Window = []
 last_check Unwindow = []
 last_check Deposit = TooLong ∷ []
@@ -70,7 +70,7 @@ is_of_object SetFaultEntry = false
 is_of_object Stop = false
 
 module _ (caller : Caller) (store : Stored) (words : List ℕ) where
-  abbrev pub fails : Service → List ℕ → Cause → Bool
+  abbrev pub fails : Service → List ℕ → CallCause → Bool
   fails service general = call_fails (seen_by caller store words) caller.subject (Other service) general
 
   checks-split : (service : Service) (general : List ℕ) → is_of_object service ≡ true →
@@ -91,7 +91,7 @@ module _ (caller : Caller) (store : Stored) (words : List ℕ) where
   checks-split Stop general h = cc
 
   -- what the front refuses, the call refuses
-  pub refused-early : (service : Service) (general : List ℕ) (cause : Cause) → is_of_object service ≡ true →
+  pub refused-early : (service : Service) (general : List ℕ) (cause : CallCause) → is_of_object service ≡ true →
       front_refusal caller store words service general ≡ Some cause →
       call_refusal (seen_by caller store words) caller.subject (Other service) general ≡ Some cause
   refused-early service general cause h e = checks-split service general h ∙ first-early (fails service general) front (last_check service) cause e
@@ -103,7 +103,7 @@ module _ (caller : Caller) (store : Stored) (words : List ℕ) where
 
   module _ (process process_after : Process) (reply : Reply) (call : Call) where
     -- a refused call, after which the objects stand as before
-    pub refused-after : (after : Stored) (cause : Cause) → objects_of after words ≡ objects_of store words → after.access ≡ store.access → after.levels ≡ store.levels → after.lines ≡ store.lines →
+    pub refused-after : (after : Stored) (cause : CallCause) → objects_of after words ≡ objects_of store words → after.access ≡ store.access → after.levels ≡ store.levels → after.lines ≡ store.lines →
         call_refusal (seen_by caller store words) caller.subject call process.registers.general ≡ Some cause →
         process_after ≡ with_values (answer_number cause ∷ cause_number cause ∷ []) process → reply ≡ record { answer = answer_of (Some cause); sent = None } →
         IsMade store after words words process_after reply (made_by caller store words process call)
@@ -119,7 +119,7 @@ module _ (caller : Caller) (store : Stored) (words : List ℕ) where
           kernel = refl;
         })
 
-    pub refused-made : (cause : Cause) → call_refusal (seen_by caller store words) caller.subject call process.registers.general ≡ Some cause →
+    pub refused-made : (cause : CallCause) → call_refusal (seen_by caller store words) caller.subject call process.registers.general ≡ Some cause →
         process_after ≡ with_values (answer_number cause ∷ cause_number cause ∷ []) process → reply ≡ record { answer = answer_of (Some cause); sent = None } →
         IsMade store store words words process_after reply (made_by caller store words process call)
     refused-made cause = refused-after store cause refl refl refl refl
@@ -131,19 +131,19 @@ module _ (caller : Caller) (store : Stored) (words : List ℕ) where
     agreed-made after words_after none made = subst (λ o. IsMade store after words words_after process_after reply (answered_by (seen_by caller store words) caller.subject process call o)) (sym none) made
 
   -- what was told where the object isn't reached
-  told : (service : Service) (general : List ℕ) (r : Result Reached Cause) (cause : Cause) → Reaches caller store service general r → r ≡ Err cause → front_refusal caller store words service general ≡ Some cause
-  told service general r cause reaches is = let reach : Reaches caller store service general (Err cause) = subst (λ (x : Result Reached Cause). Reaches caller store service general x) is reaches in reach words
+  told : (service : Service) (general : List ℕ) (r : Result Reached CallCause) (cause : CallCause) → Reaches caller store service general r → r ≡ Err cause → front_refusal caller store words service general ≡ Some cause
+  told service general r cause reaches is = let reach : Reaches caller store service general (Err cause) = subst (λ (x : Result Reached CallCause). Reaches caller store service general x) is reaches in reach words
 
   -- and what was found where it is
-  pub found : (service : Service) (general : List ℕ) (r : Result Reached Cause) (reached : Reached) → Reaches caller store service general r → r ≡ Ok reached → IsReached store service general reached
-  found service general r reached reaches is = let reach : Reaches caller store service general (Ok reached) = subst (λ (x : Result Reached Cause). Reaches caller store service general x) is reaches in reach.0
+  pub found : (service : Service) (general : List ℕ) (r : Result Reached CallCause) (reached : Reached) → Reaches caller store service general r → r ≡ Ok reached → IsReached store service general reached
+  found service general r reached reaches is = let reach : Reaches caller store service general (Ok reached) = subst (λ (x : Result Reached CallCause). Reaches caller store service general x) is reaches in reach.0
 
-  pub decided : (service : Service) (general : List ℕ) (r : Result Reached Cause) (reached : Reached) → is_of_object service ≡ true → Reaches caller store service general r → r ≡ Ok reached →
+  pub decided : (service : Service) (general : List ℕ) (r : Result Reached CallCause) (reached : Reached) → is_of_object service ≡ true → Reaches caller store service general r → r ≡ Ok reached →
       call_refusal (seen_by caller store words) caller.subject (Other service) general ≡ first (fails service general) (last_check service)
-  decided service general r reached h reaches is = let reach : Reaches caller store service general (Ok reached) = subst (λ (x : Result Reached Cause). Reaches caller store service general x) is reaches in decided-late service general h (reach.1 words)
+  decided service general r reached h reaches is = let reach : Reaches caller store service general (Ok reached) = subst (λ (x : Result Reached CallCause). Reaches caller store service general x) is reaches in decided-late service general h (reach.1 words)
 
   -- a service whose object isn't reached
-  pub refused-reach : (process process_after : Process) (reply : Reply) (service : Service) (r : Result Reached Cause) (cause : Cause) → is_of_object service ≡ true →
+  pub refused-reach : (process process_after : Process) (reply : Reply) (service : Service) (r : Result Reached CallCause) (cause : CallCause) → is_of_object service ≡ true →
       Reaches caller store service process.registers.general r → r ≡ Err cause →
       process_after ≡ with_values (answer_number cause ∷ cause_number cause ∷ []) process → reply ≡ record { answer = answer_of (Some cause); sent = None } →
       IsMade store store words words process_after reply (made_by caller store words process (Other service))

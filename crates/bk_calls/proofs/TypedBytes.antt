@@ -13,7 +13,8 @@ use Rattle.bk_quota.specs.Charges.{passes}
 use Rattle.bk_state.specs.State.{Object, Contents, Typed, find}
 use Rattle.bk_state.specs.Contents.{has_byte, without_byte}
 use Rattle.bk_state.specs.QueueCalls.{byte_on, byte_values, line_of, of_contents}
-use Rattle.bk_store.specs.Stored.{Entry, Queue, NoQueue, OfMailbox, OfLine, Stored, byte_at, byte_in, contents_in, first_of, facts_in, object_of, with_input, with_queue, without_byte as without_typed, without_first}
+use Rattle.bk_store.specs.Stored.{Entry, Queue, NoQueue, OfMailbox, OfLine, Stored, byte_at, byte_in, contents_in, first_of, facts_in, object_of}
+use Rattle.bk_store.specs.Stored.{with_input, with_queue, without_byte as without_typed, without_first}
 use Rattle.bk_store.specs.Joined.{FitsKind, HaveKinds}
 use Rattle.bk_store.proofs.Stands.{get-objects_of}
 use Rattle.bk_calls.specs.declared.caller.Caller.{Caller}

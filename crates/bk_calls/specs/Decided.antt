@@ -8,7 +8,7 @@ use Rattle.bk_state.specs.State.{State}
 use Rattle.bk_state.specs.Request.{Request, path_in}
 use Rattle.bk_state.specs.Calls.{call_refusal}
 use Rattle.bk_state.specs.declared.call.Call.TheVariants.{ByRule}
-use Rattle.bk_state.specs.declared.cause.Cause.{Cause}
+use Rattle.bk_state.specs.declared.cause.CallCause.{CallCause}
 use Rattle.bk_state.specs.declared.rule.Rule.{Rule}
 use Rattle.bk_store.specs.Stored.{Stored}
 use Rattle.bk_calls.specs.Made.{seen_by}
@@ -19,6 +19,6 @@ abbrev pub facts_there : State → (s : ℕ) → Request → RuleFacts
 facts_there v s request = record (facts_of v s request) { parent_level = lowest; new_level = lowest; fits = false }
 
 -- the path is told where no check of the rule fails, and else the cause
-abbrev pub Allows : Caller → Stored → Rule → (general : List ℕ) → Result Path Cause → Type 0
+abbrev pub Allows : Caller → Stored → Rule → (general : List ℕ) → Result Path CallCause → Type 0
 Allows caller store rule general (Ok path) = (path_in general ≡ path) × ((words : List ℕ) → call_refusal (seen_by caller store words) caller.subject (ByRule rule) general ≡ None)
 Allows caller store rule general (Err cause) = (words : List ℕ) → call_refusal (seen_by caller store words) caller.subject (ByRule rule) general ≡ Some cause

@@ -5,11 +5,11 @@ use Rattle.bk_object.specs.Rows.{most_subjects}
 use Rattle.bk_process.specs.declared.process.Process.{Process}
 use Rattle.bk_state.specs.State.{State}
 use Rattle.bk_state.specs.Causes.{cause_number, is_no}
-use Rattle.bk_state.specs.declared.cause.Cause.{Cause}
+use Rattle.bk_state.specs.declared.cause.CallCause.{CallCause}
 use Rattle.bk_state.specs.declared.call.Call.{Call}
 use Rattle.bk_state.specs.Calls.{call_refusal}
 use Rattle.bk_state.specs.Answers.{Called, answered_by}
-use Rattle.bk_store.specs.Joined.{kernel_blocks}
+use Rattle.bk_core.specs.Memory.{kernel_blocks}
 use Rattle.bk_store.specs.Stored.{Stored, objects_of}
 use Rattle.bk_calls.specs.declared.caller.Caller.{Caller}
 use Rattle.bk_calls.specs.declared.reply.Answer.{Answer}
@@ -41,10 +41,11 @@ seen_by caller store words = record {
 }
 
 -- the answer that a cause gives: no, or `?`
-abbrev pub answer_of : Option Cause → Answer
+abbrev pub answer_of : Option CallCause → Answer
 answer_of None = Yes
 answer_of (Some cause) = if is_no cause then No (cause_number cause) else Unknown (cause_number cause)
 
+-- a line and a byte as the record of both
 abbrev pub line_byte : ℕ × ℕ → LineByte
 line_byte sent = record { line = sent.0; byte = sent.1 }
 

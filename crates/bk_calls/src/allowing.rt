@@ -13,7 +13,7 @@ use crate::new_object::facts_of_new;
 use bk_path::Path;
 use bk_process::Process;
 use bk_rules::{Rule, refusal};
-use bk_state::Cause;
+use bk_state::CallCause;
 use bk_store::Store;
 
 // The path of the object where the rule answers yes, or else the cause. The caller says whether an argument of the rule is
@@ -24,16 +24,16 @@ pub(crate) fn allowed(
     caller: &Caller,
     rule: Rule,
     is_wrong: bool,
-) -> Result<Path, Cause>
+) -> Result<Path, CallCause>
     requires caller { IsCaller caller.now store.now }
     requires argument { (words : List ℕ) → (model.rule_call rule).is_wrong (seen_by caller.now store.now words) (request_in process.now.registers.general) ≡ is_wrong }
     ensures { Allows caller.now store.now rule process.now.registers.general result }
 {
     let Some(path) = path_of(process) else {
-        return Err(Cause::NoPath);
+        return Err(CallCause::NoPath);
     };
     if is_wrong {
-        return Err(Cause::BadArgument);
+        return Err(CallCause::BadArgument);
     }
     match decided(store, process, caller, path, rule) {
         None => Ok(path),
@@ -48,7 +48,7 @@ fn decided(
     caller: &Caller,
     path: Path,
     rule: Rule,
-) -> Option<Cause>
+) -> Option<CallCause>
     requires caller { IsCaller caller.now store.now }
     requires path { path_in process.now.registers.general ≡ path }
     requires level { rule ≡ Rule.Create → slice_index process.now.registers.general 4 < length store.now.levels }

@@ -7,10 +7,10 @@ ghost use Rattle.bk_calls.specs.Made.{answer_of};
 
 use crate::reply::{Answer, Reply};
 use bk_process::Process;
-use bk_state::Cause;
+use bk_state::CallCause;
 
 // The caller finds the answer in R0 and the cause in R1, and nothing else changes.
-pub(crate) fn refuse(process: &mut Process, cause: Cause) -> Reply
+pub(crate) fn refuse(process: &mut Process, cause: CallCause) -> Reply
     ensures process { process.new ≡ with_values (answer_number cause ∷ cause_number cause ∷ []) process.old }
     ensures reply { result ≡ record { answer = answer_of (Some cause); sent = None } }
 {
@@ -23,7 +23,7 @@ pub(crate) fn refuse(process: &mut Process, cause: Cause) -> Reply
 }
 
 // No or `?`, with the number of the cause.
-fn answer_for(cause: Cause) -> Answer
+fn answer_for(cause: CallCause) -> Answer
     ensures { result ≡ answer_of (Some cause) }
 {
     if cause.is_no() {

@@ -17,7 +17,7 @@ use crate::telling_calls::{entry, identify, quota};
 use crate::tree_calls::{create, delete_group};
 use bk_core::Core;
 use bk_process::Process;
-use bk_state::{Call, Cause, Rule, Service};
+use bk_state::{Call, CallCause, Rule, Service};
 use bk_store::Store;
 
 /// The call of that number, by the caller, with its registers as they are in the process: the checks in their order, the
@@ -36,7 +36,7 @@ pub fn call(
     match call_of(number) {
         Some(Call::ByRule(rule)) => decide_rule(store, core, process, caller, rule),
         Some(Call::Other(service)) => serve(store, core, process, caller, service),
-        None => refuse(process, Cause::NoCall),
+        None => refuse(process, CallCause::NoCall),
     }
 }
 

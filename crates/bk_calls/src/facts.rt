@@ -4,7 +4,6 @@ ghost use Rattle.std.specs.Prelude.{◌≡◌, ◌<◌, ℕ, List, option_map, u
 ghost use Rattle.bk_level.specs.Levels.{level_at, lowest};
 ghost use Rattle.bk_object.specs.Modes.{no_modes};
 ghost use Rattle.bk_object.specs.Rows.{in_row, most_subjects};
-ghost use Rattle.bk_path.specs.Paths.{is_root, parent};
 ghost use Rattle.bk_state.specs.Request.{Request};
 ghost use Rattle.bk_calls.specs.Decided.{facts_there};
 ghost use Rattle.bk_calls.specs.Made.{seen_by, IsCaller};
@@ -28,33 +27,19 @@ pub(crate) fn facts_there(store: &Store, caller: &Caller, path: Path, modes: Mod
     RuleFacts {
         named: is_named(store, caller.subject, path),
         there: object.is_some(),
-        root: is_root(path),
+        root: path.is_root(),
         kind: kind_of(object),
         row: row_of(object, caller.subject),
         f_s: level_at(store, caller.f_s),
         f_c: level_at(store, caller.f_c),
         f_o: level_of(store, object),
-        parent_write: writes(store, caller.subject, parent_of(path)),
-        parent_level: lowest(),
-        new_level: lowest(),
+        parent_write: writes(store, caller.subject, path.above()),
+        parent_level: Level::lowest(),
+        new_level: Level::lowest(),
         taken: object.is_some(),
         fits: false,
         modes,
     }
-}
-
-// Whether the path is root.
-pub(crate) fn is_root(path: Path) -> bool
-    ensures { result ≡ is_root path }
-{
-    path.depth() == 0
-}
-
-// The path without its last entry; root stays root.
-pub(crate) fn parent_of(path: Path) -> Path
-    ensures { result ≡ parent path }
-{
-    path.parent().unwrap_or(path)
 }
 
 // What the object is; a directory where there is none.
@@ -84,7 +69,7 @@ pub(crate) fn level_of(store: &Store, object: Option<Facts>) -> Level
 {
     match object {
         Some(facts) => level_at(store, facts.level),
-        None => lowest(),
+        None => Level::lowest(),
     }
 }
 
@@ -92,13 +77,5 @@ pub(crate) fn level_of(store: &Store, object: Option<Facts>) -> Level
 pub(crate) fn level_at(store: &Store, n: u8) -> Level
     ensures { result ≡ level_at store.now.levels n }
 {
-    store.level(n).unwrap_or(lowest())
-}
-
-// The level that stands for none.
-#[tactic(auto, unfolding(bk_level::specs::Masks::categories_of))]
-pub(crate) fn lowest() -> Level
-    ensures { result ≡ lowest }
-{
-    Level { class: 0, cats: 0 }
+    store.level(n).unwrap_or(Level::lowest())
 }

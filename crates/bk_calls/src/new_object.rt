@@ -12,11 +12,11 @@ ghost use Rattle.bk_calls.specs.Made.{seen_by, IsCaller};
 
 use crate::asking::{is_directory, modes_of};
 use crate::caller::Caller;
-use crate::facts::{facts_there, level_at, level_of, parent_of};
-use bk_object::{Facts, Kind, Row};
+use crate::facts::{facts_there, level_at, level_of};
+use bk_object::{Facts, Kind, LARGEST_QUOTA, MOST_BLOCKS, Row};
 use bk_path::Path;
 use bk_process::Process;
-use bk_quota::{LARGEST_QUOTA, charge_of};
+use bk_quota::charge_of;
 use bk_rules::{Rule, RuleFacts};
 use bk_store::Store;
 
@@ -33,7 +33,7 @@ pub(crate) fn facts_of_new(
     ensures { (words : List ℕ) → refusal_by result Rule.Create ≡ refusal_by (facts_of (seen_by caller.now store.now words) caller.now.subject (model.request_in process.now.registers.general)) Rule.Create }
 {
     store.law_levels();
-    let above = parent_of(path);
+    let above = path.above();
     let level = process.registers.general[4] as u8;
     let mut facts = facts_there(store, caller, path, modes_of(process));
     facts.parent_level = level_of(store, store.facts(above));
@@ -123,7 +123,7 @@ pub(crate) fn is_no_object(kind: u16, blocks: u16, quota: u16) -> bool
 {
     match kind {
         0 => blocks != 0 || quota < 1 || quota > LARGEST_QUOTA,
-        1 => blocks < 1 || blocks > 128,
+        1 => blocks < 1 || blocks > u16::from(MOST_BLOCKS),
         2 => blocks != 0,
         _ => true,
     }

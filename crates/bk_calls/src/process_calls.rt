@@ -5,7 +5,7 @@ ghost use Rattle.bk_calls.specs.Made.{IsMadeAlone};
 use crate::answering::{agree, refuse};
 use crate::reply::Reply;
 use bk_process::{FAULT_ENTRIES, Process, Status9};
-use bk_state::{Call, Cause, Service};
+use bk_state::{Call, CallCause, Service};
 
 // The process does nothing until its next slot.
 #[tactic(auto, unfolding(bk_state::specs::Calls::call_refusal, bk_state::specs::Answers::outcome, bk_state::specs::Answers::reply))]
@@ -24,7 +24,7 @@ pub(crate) fn set_fault_entry(process: &mut Process) -> Reply
     let fault = process.registers.general[3];
     let addr = process.registers.general[4];
     if fault >= u16::from(FAULT_ENTRIES) || addr % 2 == 1 {
-        return refuse(process, Cause::BadArgument);
+        return refuse(process, CallCause::BadArgument);
     }
     process.set_fault_entry(fault as u8, addr);
     agree(process, &[0, 0])

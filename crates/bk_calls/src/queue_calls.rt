@@ -11,7 +11,7 @@ use crate::reach::{Asked, Needs, Sort, reach};
 use crate::reply::{LineByte, Reply};
 use bk_object::Kind;
 use bk_process::Process;
-use bk_state::{Call, Cause, Service};
+use bk_state::{Call, CallCause, Service};
 use bk_store::Store;
 
 // The message in R0 and R3 to R5 goes to the mailbox at the path, of which the caller holds w or a.
@@ -57,7 +57,7 @@ pub(crate) fn receive(store: &mut Store, process: &mut Process, caller: &Caller)
                         &[0, message.lost, words[0], words[1], words[2], words[3]],
                     )
                 }
-                None => refuse(process, Cause::Empty),
+                None => refuse(process, CallCause::Empty),
             }
         }
     }
@@ -112,7 +112,7 @@ pub(crate) fn line_in(store: &mut Store, process: &mut Process, caller: &Caller)
             store.law_contents();
             match store.take_byte(reached.path) {
                 Some(byte) => agree(process, &[0, 0, u16::from(byte)]),
-                None => refuse(process, Cause::Empty),
+                None => refuse(process, CallCause::Empty),
             }
         }
     }

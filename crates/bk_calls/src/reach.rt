@@ -12,7 +12,7 @@ use crate::caller::Caller;
 use bk_object::{Facts, Kind};
 use bk_path::Path;
 use bk_process::Process;
-use bk_state::Cause;
+use bk_state::CallCause;
 use bk_store::Store;
 
 // What kind of object a service is for.
@@ -85,28 +85,28 @@ pub(crate) fn reach(
     process: &Process,
     caller: &Caller,
     asked: Asked,
-) -> Result<Reached, Cause>
+) -> Result<Reached, CallCause>
     requires { caller.now.subject < most_subjects }
     ensures reached { (service : ServiceValue) → Suits asked service process.now.registers.general → Reaches caller.now store.now service process.now.registers.general result }
     ensures argument { IfOk result (λ reached. IsFalse asked.is_wrong) }
 {
     let Some(path) = path_of(process) else {
-        return Err(Cause::NoPath);
+        return Err(CallCause::NoPath);
     };
     if asked.is_wrong {
-        return Err(Cause::BadArgument);
+        return Err(CallCause::BadArgument);
     }
     if !is_named(store, caller.subject, path) {
-        return Err(Cause::NotNamed);
+        return Err(CallCause::NotNamed);
     }
     let Some(facts) = store.facts(path) else {
-        return Err(Cause::NoObject);
+        return Err(CallCause::NoObject);
     };
     if !asked.sort.has(facts.kind) {
-        return Err(Cause::WrongKind);
+        return Err(CallCause::WrongKind);
     }
     if !asked.needs.are_met(store, caller.subject, path) {
-        return Err(Cause::NotHeld);
+        return Err(CallCause::NotHeld);
     }
     Ok(Reached { path, facts })
 }

@@ -10,8 +10,9 @@ use crate::caller::Caller;
 use crate::reach::{Asked, Needs, Sort, reach};
 use crate::reply::Reply;
 use bk_core::Core;
+use bk_object::BYTES_OF_BLOCK;
 use bk_process::{Process, WINDOWS};
-use bk_state::{Call, Cause, Service};
+use bk_state::{Call, CallCause, Service};
 use bk_store::Store;
 
 // The window in R3 shows the segment at the path, of which the caller holds r, e or w.
@@ -41,7 +42,7 @@ pub(crate) fn unwindow(process: &mut Process) -> Reply
 {
     let window = process.registers.general[3];
     if is_no_window(process) {
-        return refuse(process, Cause::BadArgument);
+        return refuse(process, CallCause::BadArgument);
     }
     process.set_window(window as u8, None);
     agree(process, &[0, 0])
@@ -74,11 +75,11 @@ pub(crate) fn deposit(
         Err(cause) => refuse(process, cause),
         Ok(reached) => {
             let word = process.registers.general[4];
-            if offset < 64 * u16::from(reached.facts.blocks) {
+            if offset < BYTES_OF_BLOCK * u16::from(reached.facts.blocks) {
                 store.write_word(core, reached.path, offset, word);
                 agree(process, &[0, 0])
             } else {
-                refuse(process, Cause::TooLong)
+                refuse(process, CallCause::TooLong)
             }
         }
     }

@@ -1,9 +1,9 @@
 // The calls that tell the caller something and change nothing else: a directory's entry, the caller itself, a quota.
 
 ghost use Rattle.std.specs.Prelude.{◌≡◌, ◌<◌, ◌+◌, ◌*◌, ◌∷◌, ℕ, List, Some, None, length, nat_lt, option_map, if◌then◌else◌};
-ghost use Rattle.bk_object.specs.Kinds.{kind_number};
+ghost use Rattle.bk_object.specs.Kinds.{kind_number, blocks_or_line};
 ghost use Rattle.bk_object.specs.Rows.{most_subjects};
-ghost use Rattle.bk_state.specs.TellingCalls.{entry_values, size_of};
+ghost use Rattle.bk_state.specs.TellingCalls.{entry_values};
 ghost use Rattle.bk_store.specs.Stored.{facts_in};
 ghost use Rattle.bk_calls.specs.declared.caller.Caller.{Caller as CallerValue};
 ghost use Rattle.bk_calls.specs.Made.{made_by, seen_by, IsMade, IsMadeWithin};
@@ -16,7 +16,7 @@ use bitflags::Flags;
 use bk_object::{Facts, Kind};
 use bk_path::Path;
 use bk_process::Process;
-use bk_state::{Call, Cause, Service};
+use bk_state::{Call, CallCause, Service};
 use bk_store::Store;
 
 // Of the child in R3 of the directory at the path, of which the caller holds r or w: its kind and blocks, the number of its
@@ -39,7 +39,7 @@ pub(crate) fn entry(store: &Store, process: &mut Process, caller: &Caller) -> Re
                     let values = values_of(store, caller.subject, child.path, &child.facts);
                     agree(process, &values)
                 }
-                None => refuse(process, Cause::Empty),
+                None => refuse(process, CallCause::Empty),
             }
         }
     }
@@ -75,14 +75,10 @@ fn values_of(store: &Store, subject: u8, child: Path, facts: &Facts) -> [u16; 6]
 
 // The number of the kind in the high byte; in the low one the blocks, or the number of the line.
 fn kind_word(facts: &Facts) -> u16
-    ensures { result ≡ 256 * kind_number facts.now.kind + size_of facts.now.kind facts.now.blocks }
+    ensures { result ≡ 256 * kind_number facts.now.kind + blocks_or_line facts.now.kind facts.now.blocks }
 {
-    match facts.kind {
-        Kind::Directory => u16::from(facts.blocks),
-        Kind::Segment => 256 + u16::from(facts.blocks),
-        Kind::Mailbox => 512 + u16::from(facts.blocks),
-        Kind::Line(n) => 768 + u16::from(n),
-    }
+    let low = facts.kind.blocks_or_line(facts.blocks);
+    256 * u16::from(facts.kind.number()) + u16::from(low)
 }
 
 // The limit of the cell that governs the directory at the path, of which the caller holds r or w, and how much is used.

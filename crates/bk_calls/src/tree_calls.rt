@@ -8,7 +8,6 @@ ghost use Rattle.bk_calls.specs.Made.{made_by, seen_by, IsCaller, IsMade};
 use crate::allowing::allowed;
 use crate::answering::{agree, refuse};
 use crate::caller::Caller;
-use crate::facts::parent_of;
 use crate::new_object::{has_level, is_no_object, level_number, new_facts};
 use crate::reply::Reply;
 use bk_core::Core;
@@ -32,7 +31,7 @@ pub(crate) fn create(
         Err(cause) => refuse(process, cause),
         Ok(path) => {
             store.law_levels();
-            let facts = new_facts(process, level_number(store, parent_of(path)));
+            let facts = new_facts(process, level_number(store, path.above()));
             store.create(core, path, facts).unwrap();
             agree(process, &[0, 0])
         }

@@ -1,7 +1,9 @@
 -- The physical words of core.
-use Rattle.std.specs.Prelude.{◌≡◌, ℕ, ◌+◌, ◌*◌, ◌/◌, ◌%◌, ◌≤◌, ◌⊎◌, ◌==◌, if◌then◌else◌, List, length, take, drop, replicate, slice_index_or, slice_set}
+use Rattle.std.specs.Prelude.{◌≡◌, ℕ, ◌+◌, ◌*◌, ◌/◌, ◌≤◌, ◌⊎◌, List, length, take, drop, replicate, slice_index_or, slice_set}
 use lib.Seq.{paste}
 use Rattle.bk_object.specs.Limits.{bytes_of_block, words_of_block}
+use Rattle.bk_space.specs.Parts.{byte_in, merged}
+use Rattle.bk_space.specs.declared.reference.Width.TheVariants.{Byte}
 
 -- core has so many blocks
 abbrev pub blocks_of_core : ℕ
@@ -14,6 +16,10 @@ words_of_core = words_of_block * blocks_of_core
 -- and so many bytes
 abbrev pub bytes_of_core : ℕ
 bytes_of_core = bytes_of_block * blocks_of_core
+
+-- the first blocks are the kernel's own, so many; the others are as many as the largest quota
+abbrev pub kernel_blocks : ℕ
+kernel_blocks = 64
 
 -- the words of all blocks
 pub record Memory : Type 0 where
@@ -36,17 +42,13 @@ word_at words addr = slice_index_or words (addr / 2) 0
 abbrev pub with_word : List ℕ → (addr value : ℕ) → List ℕ
 with_word words addr value = slice_set words (addr / 2) value
 
--- the byte at an address: the low half of its word where the address is even, else the high half
+-- the byte at an address
 abbrev pub byte_at : List ℕ → (addr : ℕ) → ℕ
-byte_at words addr = if addr % 2 == 0 then word_at words addr % 256 else word_at words addr / 256
-
--- a word once the half at an address is this byte
-abbrev pub word_with_byte : (word addr value : ℕ) → ℕ
-word_with_byte word addr value = if addr % 2 == 0 then word / 256 * 256 + value else value * 256 + word % 256
+byte_at words addr = byte_in addr (word_at words addr)
 
 -- the words once the byte at an address is this one
 abbrev pub with_byte : List ℕ → (addr value : ℕ) → List ℕ
-with_byte words addr value = with_word words addr (word_with_byte (word_at words addr) addr value)
+with_byte words addr value = with_word words addr (merged Byte addr value (word_at words addr))
 
 -- the words once so many blocks from a first one on are zero
 abbrev pub zeroed : List ℕ → (first count : ℕ) → List ℕ

@@ -5,7 +5,7 @@
 //! Proved: each call reads or changes exactly the word, byte or blocks that it names, and a core always has 3,968 blocks.
 //! Tested: that a core works, through its calls one after another, on octal words.
 //! Neither: nothing.
-//! Stands on: `bk_base`, `bk_object`.
+//! Stands on: `bk_base`, `bk_object`, `bk_space`.
 #![tactic(auto)]
 
 mod laws;
@@ -14,4 +14,4 @@ mod memory;
 mod tests;
 
 pub use laws::law_example;
-pub use memory::{BLOCKS, BYTES_OF_BLOCK, Core, WORDS_OF_BLOCK};
+pub use memory::{BLOCKS, BYTES_OF_BLOCK, Core, KERNEL_BLOCKS, WORDS_OF_BLOCK};

@@ -12,6 +12,9 @@ use std::marker::Model;
 /// How many blocks core has.
 pub const BLOCKS: u32 = 3968;
 
+/// How many blocks of core, the first ones, are the kernel's.
+pub const KERNEL_BLOCKS: u32 = 64;
+
 /// How many words of 16 bits a block has.
 pub const WORDS_OF_BLOCK: u32 = 32;
 

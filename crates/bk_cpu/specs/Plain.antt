@@ -17,7 +17,7 @@ abbrev pub page_in : List Page → ℕ → Page
 page_in pages n = slice_index_or pages n no_page
 
 -- the pages after a write: its page alone has changed, at its place
-unfoldable pub written : List Page → Write → List Page
-written pages w =
+unfoldable pub pages_written : List Page → Write → List Page
+pages_written pages w =
     let n = page_number w.mode w.space w.addr in
     slice_set pages n (record (page_in pages n) { words = put w.width w.addr w.value (page_in pages n).words })

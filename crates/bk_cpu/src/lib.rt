@@ -1,6 +1,6 @@
 //! One instruction over any bus, and a plain bus.
 //!
-//! Model: `exec` of `bk_exec`; `specs/Pages.antt` (`pages_of`), `specs/Plain.antt` (`Plain`, `page_in`, `written`) for the
+//! Model: `exec` of `bk_exec`; `specs/Pages.antt` (`pages_of`), `specs/Plain.antt` (`Plain`, `page_in`, `pages_written`) for the
 //! plain bus, and `specs/Reached.antt` (`Reaches`, `left_by`) for the parts of `step`.
 //! Calls: `step`; `PlainBus::new`, `set_page`, `words`, `references`, and those of `Bus`.
 //! Proved: `step` gives the definition's registers, write, number of references and event, over any bus, for every

@@ -1,7 +1,7 @@
 ghost use Rattle.std.specs.Prelude.{◌≡◌, ◌<◌, ◌≤◌, ◌%◌, IfOk, replicate, slice_set, vec_len};
 ghost use Rattle.bk_space.specs.AddrSpace.{Page};
 ghost use Rattle.bk_cpu.specs.Pages.{pages_of};
-ghost use Rattle.bk_cpu.specs.Plain.{no_page, page_in, written};
+ghost use Rattle.bk_cpu.specs.Plain.{no_page, page_in, pages_written};
 
 use crate::page::{PlainPage, WORDS_OF_BLOCK, WORDS_OF_PAGE, read_byte, read_word, write};
 use bk_base::NoMemory;
@@ -82,7 +82,7 @@ impl PlainBus {
     }
 }
 
-#[tactic(auto, using(crate::proofs::PageLemmas::page_lemmas), unfolding(bk_space::specs::Counts::counted_on, bk_space::specs::AddrSpace::page_at, bk_space::specs::AddrSpace::read_at, bk_space::specs::AddrSpace::write_at, crate::specs::Plain::written))]
+#[tactic(auto, using(crate::proofs::PageLemmas::page_lemmas), unfolding(bk_space::specs::Counts::counted_on, bk_space::specs::AddrSpace::page_at, bk_space::specs::AddrSpace::read_at, bk_space::specs::AddrSpace::write_at, crate::specs::Plain::pages_written))]
 impl Bus for PlainBus {
     ghost use Rattle.std.specs.Prelude.{List};
 
@@ -92,7 +92,7 @@ impl Bus for PlainBus {
 
     ghost shown = { page_in };
 
-    ghost after = { written };
+    ghost after = { pages_written };
 
     ghost references = { λ b. b.references };
 

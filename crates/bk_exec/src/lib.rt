@@ -4,7 +4,8 @@
 //! `specs/Extended.antt` (`extending`), `specs/Control.antt` (`is_taken`, `jumping`) and `specs/Previous.antt`
 //! (`moving_from`), over `specs/Given.antt` (`pushed`, `popped`); `specs/Laws.antt` (`ChangesNothing`, `IsAllowed`) and
 //! `specs/Example.antt` for the laws.
-//! Calls: none.
+//! Calls: none. (`law_faults`, `law_most_references`, `law_registers`, `law_write` and `law_example` are empty functions, for their
+//! contracts.)
 //! Proved: a fault from 0 to 4 changes nothing, no instruction makes more than eight references, its write completes, and it
 //! leaves as many general registers as it found. That `step` is this definition over any bus is proved in `bk_cpu`.
 //! Tested: nothing alone; 3,944 steps of an outside model are compared in `bk_vectors`.

@@ -10,7 +10,8 @@ use Rattle.bk_state.specs.declared.image.SubjectRec.{SubjectRec}
 use Rattle.bk_state.specs.declared.image.WindowRec.{WindowRec}
 use Rattle.bk_object.specs.Rows.{most_subjects}
 use Rattle.bk_level.specs.Levels.{most_levels}
-use Rattle.bk_image.specs.Limits.{most_bytes, most_turns, most_lines, most_places, most_objects, most_holds}
+use Rattle.bk_image.specs.Limits.{most_bytes}
+use Rattle.bk_state.specs.Limits.{most_turns, most_lines, most_places, most_objects, most_holds}
 use Rattle.bk_image.specs.declared.fault.ImageField.{ImageField}
 use Rattle.bk_image.specs.declared.fault.ImageField.TheVariants as field
 use Rattle.bk_image.specs.Parts.{Rest, from, Reads, image_format, ◌>>=◌, first_failing, part, checked, each_of, is_outside}

@@ -6,7 +6,7 @@ use Rattle.std.proofs.lemmas.List.Elements.{All-nil, All-cons}
 use Rattle.bk_state.specs.declared.image.Image.{Image}
 use Rattle.bk_object.specs.Rows.{most_subjects}
 use Rattle.bk_level.specs.Levels.{most_levels}
-use Rattle.bk_image.specs.Limits.{most_turns, most_lines, most_places, most_objects, most_holds}
+use Rattle.bk_state.specs.Limits.{most_turns, most_lines, most_places, most_objects, most_holds}
 use Rattle.bk_image.specs.declared.fault.ImageField.TheVariants as field
 use Rattle.bk_image.specs.Parts.{Reads, each_of}
 use Rattle.bk_image.specs.Header.{is_magic, magic_at, byte_at, word_at, header_at}

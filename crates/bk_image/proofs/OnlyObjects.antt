@@ -5,7 +5,7 @@ use Rattle.std.proofs.lemmas.Bool.Decides.{nat_tests}
 use Rattle.std.proofs.lemmas.List.Elements.{All-head, All-tail}
 use Rattle.bk_level.specs.Levels.{Level}
 use Rattle.bk_path.specs.Paths.{IsPath}
-use Rattle.bk_object.specs.Kinds.{kind_number}
+use Rattle.bk_object.specs.Kinds.{kind_number, blocks_or_line}
 use Rattle.bk_object.specs.Pairs.{split_pairs}
 use Rattle.bk_object.specs.Rows.{in_row}
 use Rattle.bk_object.specs.declared.modes.Modes.{Modes}
@@ -15,13 +15,13 @@ use Rattle.bk_state.specs.declared.image.ObjectRec.{ObjectRec}
 use Rattle.bk_image.specs.Parts.{Rest, Reads, ◌>>=◌, first_failing, part, checked}
 use Rattle.bk_image.specs.Numbers.{word, words_of}
 use Rattle.bk_image.specs.Objects.{kind_of, blocks_of, object_of, object_fails, words_checks, object_at}
-use Rattle.bk_image.specs.Spelling.{words_bytes, path_bytes, blocks_byte, kind_bytes, row_bytes, object_record, object_bytes}
+use Rattle.bk_image.specs.Spelling.{words_bytes, path_bytes, kind_bytes, row_bytes, object_record, object_bytes}
 use Rattle.bk_image.specs.Writing.{RowFits, blocks_fit}
 use Rattle.bk_base.specs.Parts.{from}
 use Rattle.bk_image.proofs.Only.{Only, only_then, only_checked, only_done, part_only, checked_only, Rereads, word_back, words_again, words_count, path_again}
 
 kind_again : (kind : Kind) (blocks : ℕ) → blocks_fit kind blocks ≡ true →
-    (kind_of (kind_number kind) (blocks_byte kind blocks) ≡ kind) × (blocks_of (kind_of (kind_number kind) (blocks_byte kind blocks)) (blocks_byte kind blocks) ≡ blocks)
+    (kind_of (kind_number kind) (blocks_or_line kind blocks) ≡ kind) × (blocks_of (kind_of (kind_number kind) (blocks_or_line kind blocks)) (blocks_or_line kind blocks) ≡ blocks)
 kind_again Directory blocks fit = (refl, refl)
 kind_again Segment blocks fit = (refl, refl)
 kind_again Mailbox blocks fit = (refl, refl)

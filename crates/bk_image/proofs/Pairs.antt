@@ -4,7 +4,7 @@ use Rattle.std.proofs.Common.{ap, ◌∙◌, arith, append_assoc, length-take-le
 use Rattle.std.specs.Prelude.{if◌then◌else◌}
 use Rattle.std.proofs.Math.Seq.{take-suc, set-append_seam, get_or-append_seam}
 use Rattle.bk_object.specs.declared.modes.Modes.{Modes}
-use Rattle.bk_object.specs.Modes.{Mode, Read, Execute, Write, Append, no_modes, union, has}
+use Rattle.bk_object.specs.Modes.{AccessMode, Read, Execute, Write, Append, no_modes, union, has}
 use Rattle.bk_object.specs.Pairs.{split_pairs}
 use Rattle.bk_object.specs.Rows.{in_row, given}
 use Rattle.bk_object.proofs.ModeLemmas.{has-union, same_modes}
@@ -21,7 +21,7 @@ drop_all (x ∷ xs) = drop_all xs
 union_none : (modes : Modes) → modes.0 < 16 → union no_modes modes ≡ modes
 union_none modes small = same_modes (union no_modes modes) modes four small (λ mode. has-union no_modes modes mode ∙ by mode)
   where
-    by : (mode : Mode) → (has no_modes mode || has modes mode) ≡ has modes mode
+    by : (mode : AccessMode) → (has no_modes mode || has modes mode) ≡ has modes mode
     by Read = refl
     by Execute = refl
     by Write = refl

@@ -3,7 +3,7 @@ use Rattle.std.proofs.Common.{◌≡◌, ℕ, ◌+◌, ◌-◌, ◌/◌, ◌%◌
 use Rattle.std.proofs.Common.{ap, subst, ◌∙◌, ◌⊎◌, inl, inr, arith}
 use Rattle.std.proofs.lemmas.Bool.{cases_lt}
 use Rattle.std.proofs.lemmas.List.{get_or-drop, length-map}
-use Rattle.bk_object.specs.Modes.{Mode, Read, Execute, Write, Append, has, is_within, no_modes}
+use Rattle.bk_object.specs.Modes.{AccessMode, Read, Execute, Write, Append, has, is_within, no_modes}
 use Rattle.bk_object.specs.Kinds.{kind_modes}
 use Rattle.bk_object.specs.Rows.{in_row}
 use Rattle.bk_object.specs.declared.facts.Facts.{Facts}
@@ -26,30 +26,30 @@ four true true false d h = cc
 four true false c d h = cc
 four false b c d h = cc
 
-abbrev asked : Modes → Modes → Mode → Bool
+abbrev asked : Modes → Modes → AccessMode → Bool
 asked a b mode = not (has a mode) || has b mode
 
 -- what a set has, each set has that it is within
-pub within_has : (a b : Modes) (mode : Mode) → is_within a b ≡ true → has a mode ≡ true → has b mode ≡ true
+pub within_has : (a b : Modes) (mode : AccessMode) → is_within a b ≡ true → has a mode ≡ true → has b mode ≡ true
 within_has a b mode inside h = implied (has a mode) (has b mode) (by mode (four (asked a b Read) (asked a b Execute) (asked a b Write) (asked a b Append) inside)) h
   where
-    by : (m : Mode) → (asked a b Read ≡ true) × (asked a b Execute ≡ true) × (asked a b Write ≡ true) × (asked a b Append ≡ true) → asked a b m ≡ true
+    by : (m : AccessMode) → (asked a b Read ≡ true) × (asked a b Execute ≡ true) × (asked a b Write ≡ true) × (asked a b Append ≡ true) → asked a b m ≡ true
     by Read all = all.0
     by Execute all = all.1
     by Write all = all.2
     by Append all = all.3
 
-has_none : (modes : Modes) (mode : Mode) → (modes.0 == 0) ≡ true → has modes mode ≡ false
+has_none : (modes : Modes) (mode : AccessMode) → (modes.0 == 0) ≡ true → has modes mode ≡ false
 has_none modes mode none = by mode (zero_of modes.0 none)
   where
-    by : (m : Mode) → modes.0 ≡ 0 → has modes m ≡ false
+    by : (m : AccessMode) → modes.0 ≡ 0 → has modes m ≡ false
     by Read e = ap (λ n. n % 2 == 1) e
     by Execute e = ap (λ n. n / 2 % 2 == 1) e
     by Write e = ap (λ n. n / 4 % 2 == 1) e
     by Append e = ap (λ n. n / 8 % 2 == 1) e
 
 -- past the subjects a row has nothing
-past_subjects : (subjects : ℕ) (row : List Modes) (s : ℕ) (mode : Mode) → fits_subjects subjects row ≡ true → subjects ≤ s → has (in_row row s) mode ≡ false
+past_subjects : (subjects : ℕ) (row : List Modes) (s : ℕ) (mode : AccessMode) → fits_subjects subjects row ≡ true → subjects ≤ s → has (in_row row s) mode ≡ false
 past_subjects subjects row s mode fits le =
     has_none (in_row row s) mode (subst (λ modes. (modes.0 == 0) ≡ true) place (all_at (λ modes. modes.0 == 0) (drop subjects row) (s - subjects) no_modes refl fits))
   where
@@ -58,7 +58,7 @@ past_subjects subjects row s mode fits le =
         let same : subjects + (s - subjects) ≡ s = omega arith in
         get_or-drop subjects row (s - subjects) no_modes ∙ ap (λ n. get_or row n no_modes) same
 
-pub rows_secure : (image : Image) → IsAccepted image → (path : Path) (facts : Facts) (s : ℕ) (mode : Mode) → facts_in_state (state_of image) path ≡ Some facts → has (in_row facts.row s) mode ≡ true →
+pub rows_secure : (image : Image) → IsAccepted image → (path : Path) (facts : Facts) (s : ℕ) (mode : AccessMode) → facts_in_state (state_of image) path ≡ Some facts → has (in_row facts.row s) mode ≡ true →
     (has (kind_modes facts.kind) mode ≡ true) × (s < length (state_of image).fixed.subjects)
 unfolding state_of objects_in
 rows_secure image accepted path facts s mode is h =

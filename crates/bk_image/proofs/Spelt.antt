@@ -8,7 +8,7 @@ use Rattle.bk_level.specs.Levels.{Level}
 use Rattle.bk_level.specs.Masks.{mask_of-categories_of}
 use Rattle.bk_path.specs.Paths.{Path, unpack}
 use Rattle.bk_path.proofs.PathLemmas.{pack-unpack}
-use Rattle.bk_object.specs.Kinds.{kind_number}
+use Rattle.bk_object.specs.Kinds.{kind_number, blocks_or_line}
 use Rattle.bk_object.specs.Pairs.{split_pairs}
 use Rattle.bk_state.specs.declared.image.Hold.{Hold}
 use Rattle.bk_state.specs.declared.image.ObjectRec.{ObjectRec}
@@ -22,7 +22,7 @@ use Rattle.bk_image.specs.Subjects.{level_of, level_checks, level_at, schedule_c
 use Rattle.bk_image.specs.Subjects.{subject_of, subject_fails, subject_at}
 use Rattle.bk_image.specs.Objects.{Objects, kind_of, blocks_of, object_of, object_fails, words_checks, object_at}
 use Rattle.bk_image.specs.Holds.{hold_of, hold_checks, hold_at}
-use Rattle.bk_image.specs.Spelling.{word_bytes, path_bytes, level_bytes, mode_number, window_bytes, subject_record, subject_bytes, blocks_byte, kind_bytes}
+use Rattle.bk_image.specs.Spelling.{word_bytes, path_bytes, level_bytes, mode_number, window_bytes, subject_record, subject_bytes, kind_bytes}
 use Rattle.bk_image.specs.Spelling.{row_bytes, object_record, object_bytes, hold_bytes}
 use Rattle.bk_base.proofs.FaultLemmas.{bind_ok, ok_is}
 use Rattle.bk_image.proofs.Takes.{IsBytes, IsBytes-drop, IsBytes-take, Takes-then, Takes-value, part_takes, checked_ok, Spells, checked_spells, all_take}
@@ -142,7 +142,7 @@ subject_spells levels before rest x fits e =
 
 -- ---- objects
 
-kind_back : (n line : ℕ) → not (not (nat_lt 3 n)) ≡ false → (kind_number (kind_of n line) ≡ n) × (blocks_byte (kind_of n line) (blocks_of (kind_of n line) line) ≡ line)
+kind_back : (n line : ℕ) → not (not (nat_lt 3 n)) ≡ false → (kind_number (kind_of n line) ≡ n) × (blocks_or_line (kind_of n line) (blocks_of (kind_of n line) line) ≡ line)
 kind_back zero line le = (refl, refl)
 kind_back (suc zero) line le = (refl, refl)
 kind_back (suc (suc zero)) line le = (refl, refl)

@@ -7,7 +7,7 @@ use Rattle.bk_state.specs.declared.image.ObjectRec.{ObjectRec}
 use Rattle.bk_state.specs.declared.image.SubjectRec.{SubjectRec}
 use Rattle.bk_object.specs.Rows.{most_subjects}
 use Rattle.bk_level.specs.Levels.{most_levels}
-use Rattle.bk_image.specs.Limits.{most_turns, most_lines, most_places, most_objects, most_holds}
+use Rattle.bk_state.specs.Limits.{most_turns, most_lines, most_places, most_objects, most_holds}
 use Rattle.bk_image.specs.declared.fault.ImageField.TheVariants as field
 use Rattle.bk_image.specs.Parts.{Rest, Reads, ◌>>=◌, each_of}
 use Rattle.bk_image.specs.Header.{Header, byte_at, word_at}

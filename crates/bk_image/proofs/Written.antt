@@ -12,7 +12,7 @@ use Rattle.bk_base.specs.declared.stop.Stop.{Stop}
 use Rattle.bk_image.specs.Parts.{◌>>=◌, Gives}
 use Rattle.bk_image.specs.Image.{image_of}
 use Rattle.bk_image.specs.Spelling.{spelling}
-use Rattle.bk_image.specs.Writing.{ObjectFits, Fits, blocks_fit, object_fits, counts_fit, written}
+use Rattle.bk_image.specs.Writing.{ObjectFits, Fits, blocks_fit, object_fits, counts_fit, written_image}
 use Rattle.bk_base.proofs.FaultLemmas.{bind_ok, ok_is}
 use Rattle.bk_image.proofs.Fronts.{image_grows}
 use Rattle.bk_image.proofs.OnlyObjects.{ObjectIsSpelt}
@@ -59,8 +59,8 @@ chosen true r d y e = (refl, e)
 chosen false r d y e = absurd cc
 
 -- what is written is read as the image to its end, whatever follows
-pub written_again : (image : Image) → Fits image → (bytes : List ℕ) → written image ≡ Ok bytes → (more : List ℕ) → image_of (bytes ++ more) ≡ Ok (image, length bytes)
-unfolding written
+pub written_again : (image : Image) → Fits image → (bytes : List ℕ) → written_image image ≡ Ok bytes → (more : List ℕ) → image_of (bytes ++ more) ≡ Ok (image, length bytes)
+unfolding written_image
 written_again image fits bytes e more =
     let c = chosen (counts_fit image) (image_of (spelling image) >>= λ i. Ok (spelling image)) (record { at = 0; field = field.Counts }) bytes e in
     let b = bind_ok (image_of (spelling image)) (λ i. Ok (spelling image)) bytes c.1 in
@@ -71,6 +71,6 @@ written_again image fits bytes e more =
     subst (λ (t : List ℕ). image_of (t ++ more) ≡ Ok (image, length t)) (ok_is (spelling image) bytes b.2) again
 
 -- the same of what a function returned
-pub is_written : {Y : Type 0} (image : Image) (view : Y → List ℕ) (r : Result Y (Stop ImageFault)) → IfOk r (λ y. Fits image) → Gives view r (written image) → IfOk r (λ y. (more : List ℕ) → image_of (view y ++ more) ≡ Ok (image, length (view y)))
+pub is_written : {Y : Type 0} (image : Image) (view : Y → List ℕ) (r : Result Y (Stop ImageFault)) → IfOk r (λ y. Fits image) → Gives view r (written_image image) → IfOk r (λ y. (more : List ℕ) → image_of (view y ++ more) ≡ Ok (image, length (view y)))
 is_written image view (Ok y) fits given = written_again image fits (view y) given
 is_written image view (Err e) fits given = tt

@@ -7,7 +7,7 @@ use Rattle.bk_state.specs.declared.image.Image.{Image}
 use Rattle.bk_state.specs.declared.image.ObjectRec.{ObjectRec}
 use Rattle.bk_state.specs.declared.image.SubjectRec.{SubjectRec}
 use Rattle.bk_image.specs.declared.fault.ImageField.TheVariants as field
-use Rattle.bk_image.specs.Limits.{most_turns, most_lines, most_places, most_objects, most_holds}
+use Rattle.bk_state.specs.Limits.{most_turns, most_lines, most_places, most_objects, most_holds}
 use Rattle.bk_image.specs.Parts.{Check, Passes}
 use Rattle.bk_image.specs.Subjects.{level_checks, schedule_checks, subject_checks, window_checks}
 use Rattle.bk_image.specs.Objects.{Told, objects_in, object_checks, words_checks, is_over, lacks_lines}

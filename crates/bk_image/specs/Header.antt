@@ -4,7 +4,7 @@ use Rattle.bk_level.specs.Levels.{most_levels}
 use Rattle.bk_object.specs.Rows.{most_subjects}
 use Rattle.bk_image.specs.declared.fault.ImageField.{ImageField}
 use Rattle.bk_image.specs.declared.fault.ImageField.TheVariants as field
-use Rattle.bk_image.specs.Limits.{most_turns, most_lines, most_places, most_objects, most_holds}
+use Rattle.bk_state.specs.Limits.{most_turns, most_lines, most_places, most_objects, most_holds}
 use Rattle.bk_image.specs.Parts.{Rest, Reads, ◌>>=◌, checked, is_outside}
 use Rattle.bk_image.specs.Numbers.{byte, word}
 

@@ -5,7 +5,7 @@ use Rattle.bk_level.specs.Levels.{Level, dominates, level_at}
 use Rattle.bk_path.specs.Paths.{Path, path_cmp, is_root, parent}
 use Rattle.bk_object.specs.Kinds.{kind_modes}
 use Rattle.bk_object.specs.Rows.{in_row}
-use Rattle.bk_object.specs.Modes.{Mode, Read, Execute, Write, Append, has, is_within}
+use Rattle.bk_object.specs.Modes.{AccessMode, Read, Execute, Write, Append, has, is_within}
 use Rattle.bk_object.specs.declared.modes.Modes.{Modes}
 use Rattle.bk_quota.specs.Charges.{passes}
 use Rattle.bk_state.specs.Allowed.{is_simple, is_star}
@@ -40,10 +40,10 @@ abbrev pub current_in : List Level → List SubjectRec → ℕ → Level
 current_in levels subjects n = level_at levels (clearance_in subjects n).current
 
 -- each mode of the set passes the test
-abbrev pub each_mode : (Mode → Bool) → Modes → Bool
+abbrev pub each_mode : (AccessMode → Bool) → Modes → Bool
 each_mode test modes = asks Read && asks Execute && asks Write && asks Append
   where
-    asks : Mode → Bool
+    asks : AccessMode → Bool
     asks mode = not (has modes mode) || test mode
 
 -- the simple security condition and the *-property hold of each mode of the set

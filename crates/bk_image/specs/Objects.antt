@@ -7,6 +7,7 @@ use Rattle.std.specs.FinMap as finmap
 use Rattle.bk_level.specs.Levels.{Level, dominates, level_at}
 use Rattle.bk_path.specs.Paths.{Path, path_cmp, is_root, parent}
 use Rattle.bk_object.specs.Kinds.{is_directory, is_any_line, kind_modes}
+use Rattle.bk_object.specs.Limits.{most_blocks, largest_quota, words_of_block}
 use Rattle.bk_object.specs.Modes.{is_within}
 use Rattle.bk_object.specs.Pairs.{split_pairs}
 use Rattle.bk_object.specs.declared.kind.Kind.{Kind}
@@ -99,7 +100,7 @@ has_parent objects path = passes (λ above. is_directory above.kind) (facts_at o
 -- a segment has 1 to 128 blocks; the number of a line is below the lines, and not used before; all else has no blocks
 abbrev pub fits_kind : (lines : ℕ) → List ObjectRec → Kind → (blocks : ℕ) → Bool
 fits_kind lines before Directory blocks = blocks == 0
-fits_kind lines before Segment blocks = not (is_outside 1 128 blocks)
+fits_kind lines before Segment blocks = not (is_outside 1 most_blocks blocks)
 fits_kind lines before Mailbox blocks = blocks == 0
 fits_kind lines before (Line n) blocks = blocks == 0 && nat_lt n lines && not (list_any (λ o. is_line n o.facts.kind) before)
 
@@ -109,7 +110,7 @@ dominates_above levels objects path level = passes (λ above. dominates (level_a
 
 -- a cell has a limit of 1 to 3,904, and all else has none
 abbrev pub fits_cell : Bool → (quota : ℕ) → Bool
-fits_cell true quota = not (is_outside 1 3904 quota)
+fits_cell true quota = not (is_outside 1 largest_quota quota)
 fits_cell false quota = quota == 0
 
 -- each set of modes is within the kind's, and none is of a subject that isn't there
@@ -120,13 +121,13 @@ fits_modes kind row = list_all (λ modes. is_within modes (kind_modes kind)) row
 abbrev pub fits_subjects : (subjects : ℕ) → List Modes → Bool
 fits_subjects subjects row = list_all (λ modes. modes.0 == 0) (drop subjects row)
 
--- the words that an object can have: 32 for each block of a segment
+-- the words that an object can have: those of a segment's blocks
 abbrev pub room : Facts → ℕ
 room facts = by facts.kind
   where
     by : Kind → ℕ
     by Directory = 0
-    by Segment = 32 * facts.blocks
+    by Segment = words_of_block * facts.blocks
     by Mailbox = 0
     by (Line n) = 0
 

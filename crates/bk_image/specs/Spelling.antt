@@ -4,7 +4,7 @@ use Rattle.std.specs.List.{range_with_len}
 use Rattle.bk_level.specs.Levels.{Level}
 use Rattle.bk_level.specs.Masks.{mask_of}
 use Rattle.bk_path.specs.Paths.{Path, pack}
-use Rattle.bk_object.specs.Kinds.{kind_number}
+use Rattle.bk_object.specs.Kinds.{kind_number, blocks_or_line}
 use Rattle.bk_object.specs.Rows.{in_row}
 use Rattle.bk_object.specs.declared.kind.Kind.{Kind}
 use Rattle.bk_object.specs.declared.kind.Kind.TheVariants.{Directory, Segment, Mailbox, Line}
@@ -61,16 +61,9 @@ subject_record s =
 abbrev pub subject_bytes : SubjectRec → List ℕ
 subject_bytes s = subject_record s ++ flat_map window_bytes s.windows
 
--- the number of a line, and the blocks of all else
-abbrev pub blocks_byte : Kind → (blocks : ℕ) → ℕ
-blocks_byte Directory blocks = blocks
-blocks_byte Segment blocks = blocks
-blocks_byte Mailbox blocks = blocks
-blocks_byte (Line n) blocks = n
-
 -- kind, blocks or line number, level, and zero
 unfoldable pub kind_bytes : Facts → List ℕ
-kind_bytes facts = kind_number facts.kind ∷ blocks_byte facts.kind facts.blocks ∷ facts.level ∷ 0 ∷ []
+kind_bytes facts = kind_number facts.kind ∷ blocks_or_line facts.kind facts.blocks ∷ facts.level ∷ 0 ∷ []
 
 -- a byte of a row: the subject of twice its place in the low half, and the next one in the high half
 abbrev pub row_byte : List Modes → (place : ℕ) → ℕ

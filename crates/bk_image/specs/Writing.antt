@@ -4,7 +4,9 @@ use Rattle.std.specs.List.{list_all}
 use Rattle.bk_level.specs.Levels.{Level}
 use Rattle.bk_level.specs.Masks.{mask_of, categories_of}
 use Rattle.bk_path.specs.Paths.{IsPath}
+use Rattle.bk_object.specs.Rows.{most_subjects}
 use Rattle.bk_object.specs.declared.modes.Modes.{Modes}
+use Rattle.bk_process.specs.NewProcess.{entries_of_process, general_registers}
 use Rattle.bk_object.specs.declared.kind.Kind.{Kind}
 use Rattle.bk_object.specs.declared.kind.Kind.TheVariants.{Directory, Segment, Mailbox, Line}
 use Rattle.bk_state.specs.declared.image.Image.{Image}
@@ -45,8 +47,8 @@ counts_fit image =
     && list_all object_fits image.objects
 
 -- the bytes of an image, or the first fault
-unfoldable pub written : Image → Result (List ℕ) ImageFault
-written image = if counts_fit image then (image_of (spelling image) >>= λ i. Ok (spelling image)) else fault 0 field.Counts
+unfoldable pub written_image : Image → Result (List ℕ) ImageFault
+written_image image = if counts_fit image then (image_of (spelling image) >>= λ i. Ok (spelling image)) else fault 0 field.Counts
 
 -- ---- what the parts of every image have, since their types have it
 
@@ -60,13 +62,13 @@ WindowFits window = IsPath window.path
 
 -- six registers and eight fault entries
 pub record SubjectFits (s : SubjectRec) : Type 0 where
-  pub regs : length s.regs ≡ 6
-  pub entries : length s.entries ≡ 8
+  pub regs : length s.regs ≡ general_registers
+  pub entries : length s.entries ≡ entries_of_process
   pub windows : All WindowFits s.windows
 
--- 32 sets, each of the four modes
+-- a set of the four modes for each subject
 pub record RowFits (row : List Modes) : Type 0 where
-  pub whole : length row ≡ 32
+  pub whole : length row ≡ most_subjects
   pub sets : All (λ modes. modes.0 < 16) row
 
 -- an object has a path and a whole row

@@ -13,8 +13,7 @@ ghost use Rattle.bk_image.specs.Holds as model;
 ghost use Rattle.bk_image.specs.Views.{rest_of, IsAscending};
 
 use crate::fault::{ImageField, ImageStop};
-use crate::level::level_at;
-use crate::lookup::{above, facts_at, is_root};
+use crate::lookup::facts_at;
 use crate::part::{bad, part, path_in};
 use crate::rest::Rest;
 use bitflags::Flags;
@@ -63,8 +62,8 @@ fn greatest(levels: &LevelTable, subjects: &[SubjectRec], n: u8) -> Level
     ensures { result ≡ model.greatest_in levels.now subjects.now n }
 {
     match subjects.get(n as usize) {
-        Some(subject) => level_at(levels, subject.f_s),
-        None => level_at(levels, 0),
+        Some(subject) => levels.at(subject.f_s),
+        None => levels.at(0),
     }
 }
 
@@ -73,8 +72,8 @@ fn current(levels: &LevelTable, subjects: &[SubjectRec], n: u8) -> Level
     ensures { result ≡ model.current_in levels.now subjects.now n }
 {
     match subjects.get(n as usize) {
-        Some(subject) => level_at(levels, subject.f_c),
-        None => level_at(levels, 0),
+        Some(subject) => levels.at(subject.f_c),
+        None => levels.at(0),
     }
 }
 
@@ -126,9 +125,9 @@ fn dominates_parent(levels: &LevelTable, objects: &[ObjectRec], current: Level, 
     requires { IsAscending objects.now }
     ensures { result ≡ model.dominates_parent levels.now (objects_in objects.now) current path }
 {
-    match facts_at(objects, above(path)) {
+    match facts_at(objects, path.above()) {
         None => false,
-        Some(above) => current.dominates(level_at(levels, above.level)),
+        Some(above) => current.dominates(levels.at(above.level)),
     }
 }
 
@@ -160,7 +159,7 @@ fn check(
         Some(facts) => {
             let greatest = greatest(levels, subjects, hold.subject);
             let current = current(levels, subjects, hold.subject);
-            let object = level_at(levels, facts.level);
+            let object = levels.at(facts.level);
             if !hold.modes.is_within(facts.kind.modes()) {
                 return Err(bad(at, ImageField::Kind));
             }
@@ -173,7 +172,7 @@ fn check(
             if !fits_star(hold.modes, current, object) {
                 return Err(bad(at, ImageField::Star));
             }
-            if !is_root(hold.path) && !dominates_parent(levels, objects, current, hold.path) {
+            if !hold.path.is_root() && !dominates_parent(levels, objects, current, hold.path) {
                 return Err(bad(at, ImageField::Parent));
             }
             Ok(())

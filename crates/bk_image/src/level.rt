@@ -1,7 +1,6 @@
 // Levels: each stands once.
 
 ghost use Rattle.std.specs.Prelude.{◌≡◌, ◌<◌, ◌≤◌, [], ◌∷◌, ◌++◌, false, length, IfOk};
-ghost use Rattle.bk_level.specs.Levels as levels_model;
 ghost use Rattle.bk_level.specs.Levels.{has_level, most_levels};
 ghost use Rattle.bk_image.specs.Parts.{Gives, each_of};
 ghost use Rattle.bk_image.specs.Subjects.{level_at};
@@ -11,35 +10,6 @@ use crate::fault::{ImageField, ImageStop};
 use crate::part::{bad, part, word};
 use crate::rest::Rest;
 use bk_level::{Level, LevelTable};
-
-#[tactic(auto, unfolding(bk_level::specs::Masks::categories_of))]
-fn lowest() -> Level
-    ensures { result ≡ levels_model.lowest }
-{
-    Level { class: 0, cats: 0 }
-}
-
-/// The level with the number; past the end the lowest level.
-pub(crate) fn level_at(levels: &LevelTable, n: u8) -> Level
-    ensures { result ≡ levels_model.level_at levels.now n }
-{
-    match levels.get(n) {
-        Some(level) => level,
-        None => lowest(),
-    }
-}
-
-// Whether the level stands in the table.
-fn has_level(levels: &LevelTable, level: Level) -> bool
-    ensures { result ≡ has_level levels.now level }
-{
-    for n in 0..levels.len() {
-        if level_at(levels, n) == level {
-            return true;
-        }
-    }
-    false
-}
 
 // One more level, which doesn't stand in the table yet.
 fn add_level(levels: &mut LevelTable, level: Level)
@@ -64,7 +34,7 @@ fn next(before: &LevelTable, rest: &mut Rest) -> Result<Level, ImageStop>
         class: bytes[0],
         cats: word(bytes, 2),
     };
-    if has_level(before, level) {
+    if before.has(level) {
         return Err(bad(at, ImageField::Level));
     }
     Ok(level)

@@ -1,9 +1,9 @@
 //! Images: what a run starts from, read from bytes and written as bytes, and the first fault of bytes that are no image.
 //!
-//! Model: `specs/Limits.antt` (how much an image has), `specs/Parts.antt` (parts, places and faults), `specs/Numbers.antt`
+//! Model: `specs/Limits.antt` (how long an image is), `specs/Parts.antt` (parts, places and faults), `specs/Numbers.antt`
 //! (numbers and paths in bytes), `specs/Header.antt`, `specs/Subjects.antt`, `specs/Objects.antt` and `specs/Holds.antt` (each
 //! kind of part, its checks in their order), `specs/Image.antt` (`image_of`: the image, or the first fault),
-//! `specs/Spelling.antt` (`spelling`), `specs/Writing.antt` (`written`), `specs/Accepted.antt` (`IsAccepted`),
+//! `specs/Spelling.antt` (`spelling`), `specs/Writing.antt` (`written_image`), `specs/Accepted.antt` (`IsAccepted`),
 //! `specs/Texts.antt` (the word for each fault), `specs/Example.antt`. `specs/Views.antt` says what the code keeps.
 //! Calls: `read_image`, `write_image`; `ImageField::text`; `law_no_prefix`, `law_example`.
 //! Proved: `read_image` gives exactly the image that the first bytes spell and their number, or exactly the first fault and

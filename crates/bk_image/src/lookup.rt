@@ -42,20 +42,3 @@ impl<'a> FactsByPath for ByPath<'a> {
         facts_at(self.objects, path)
     }
 }
-
-/// The path without its last entry; that of root is root.
-pub(crate) fn above(path: Path) -> Path
-    ensures { result ≡ paths.parent path }
-{
-    match path.parent() {
-        Some(above) => above,
-        None => path,
-    }
-}
-
-/// Whether the path is root.
-pub(crate) fn is_root(path: Path) -> bool
-    ensures { result ≡ paths.is_root path }
-{
-    path.depth() == 0
-}

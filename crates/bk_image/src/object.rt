@@ -15,14 +15,14 @@ ghost use Rattle.bk_image.specs.Objects as model;
 ghost use Rattle.bk_image.specs.Views.{rest_of, IsAscending};
 
 use crate::fault::{ImageField, ImageStop};
-use crate::lookup::{above, facts_at, is_root};
+use crate::lookup::facts_at;
 use crate::part::{bad, part, path_in, word};
 use crate::rest::Rest;
 use crate::row::{fits_modes, fits_subjects, row_of};
 use crate::subject::dominates_at;
 use bk_base::Words;
 use bk_level::LevelTable;
-use bk_object::{Facts, Kind};
+use bk_object::{Facts, Kind, LARGEST_QUOTA, MOST_BLOCKS, WORDS_OF_BLOCK};
 use bk_path::Path;
 use bk_state::ObjectRec;
 use std::alloc::Global;
@@ -91,7 +91,7 @@ fn follows(before: &[ObjectRec], path: Path) -> bool
     ensures order { result ≡ model.path_follows (last before.now) path }
 {
     match before.last() {
-        None => is_root(path),
+        None => path.is_root(),
         Some(object) => object.path.cmp(&path).is_lt(),
     }
 }
@@ -101,7 +101,7 @@ fn has_parent(objects: &[ObjectRec], path: Path) -> bool
     requires { IsAscending objects.now }
     ensures { result ≡ model.has_parent (model.objects_in objects.now) path }
 {
-    match facts_at(objects, above(path)) {
+    match facts_at(objects, path.above()) {
         None => false,
         Some(above) => is_directory(above.kind),
     }
@@ -134,7 +134,7 @@ fn fits_kind(lines: u8, before: &[ObjectRec], kind: Kind, blocks: u8) -> bool
 {
     match kind {
         Kind::Directory | Kind::Mailbox => blocks == 0,
-        Kind::Segment => !(blocks < 1 || 128 < blocks),
+        Kind::Segment => !(blocks < 1 || MOST_BLOCKS < blocks),
         Kind::Line(n) => blocks == 0 && n < lines && !is_used(n, before),
     }
 }
@@ -144,7 +144,7 @@ fn dominates_above(levels: &LevelTable, objects: &[ObjectRec], path: Path, level
     requires { IsAscending objects.now }
     ensures { result ≡ model.dominates_above levels.now (model.objects_in objects.now) path level }
 {
-    match facts_at(objects, above(path)) {
+    match facts_at(objects, path.above()) {
         None => false,
         Some(above) => dominates_at(levels, level, above.level),
     }
@@ -166,14 +166,14 @@ pub(crate) fn has_cell(objects: &[ObjectRec], path: Path, kind: Kind, level: u8)
     requires { IsAscending objects.now }
     ensures { result ≡ (paths.is_root path || kinds.is_directory kind && not (model.level_above (model.objects_in objects.now) path == level)) }
 {
-    is_root(path) || is_directory(kind) && level_of(objects, above(path)) != level
+    path.is_root() || is_directory(kind) && level_of(objects, path.above()) != level
 }
 
 fn fits_cell(has_cell: bool, quota: u16) -> bool
     ensures { result ≡ model.fits_cell has_cell quota }
 {
     if has_cell {
-        !(quota < 1 || 3904 < quota)
+        !(quota < 1 || LARGEST_QUOTA < quota)
     } else {
         quota == 0
     }
@@ -183,7 +183,7 @@ fn room(facts: &Facts) -> u16
     ensures { result ≡ model.room facts.now }
 {
     match facts.kind {
-        Kind::Segment => 32 * u16::from(facts.blocks),
+        Kind::Segment => WORDS_OF_BLOCK * u16::from(facts.blocks),
         Kind::Directory | Kind::Mailbox | Kind::Line(_) => 0,
     }
 }
@@ -257,10 +257,10 @@ fn check_at(
     if !follows(before, path) {
         return Err(bad(at, ImageField::Path));
     }
-    if !is_root(path) && !has_parent(before, path) {
+    if !path.is_root() && !has_parent(before, path) {
         return Err(bad(at, ImageField::Parent));
     }
-    if 3 < bytes[4] || is_root(path) && !is_directory(facts.kind) {
+    if 3 < bytes[4] || path.is_root() && !is_directory(facts.kind) {
         return Err(bad(at, ImageField::Kind));
     }
     if !fits_kind(lines, before, facts.kind, facts.blocks) {
@@ -269,7 +269,7 @@ fn check_at(
     if facts.level >= levels.len() {
         return Err(bad(at, ImageField::Level));
     }
-    if !is_root(path) && !dominates_above(levels, before, path, facts.level) {
+    if !path.is_root() && !dominates_above(levels, before, path, facts.level) {
         return Err(bad(at, ImageField::Level));
     }
     if bytes[7] != 0 {

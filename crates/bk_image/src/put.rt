@@ -2,10 +2,9 @@
 
 ghost use Rattle.std.specs.Prelude.{◌≡◌, ◌++◌, ◌∷◌, ◌+◌, ◌*◌, [], ◌<◌, ℕ, All, length, map, flat_map, OnOk, IsTrue};
 ghost use Rattle.std.specs.List.{range_with_len, list_all};
-ghost use Rattle.bk_object.specs.Kinds.{kind_number};
-ghost use Rattle.bk_object.specs.Rows.{in_row};
+ghost use Rattle.bk_object.specs.Rows.{in_row, most_subjects};
 ghost use Rattle.bk_path.specs.Paths.{IsPath};
-ghost use Rattle.bk_image.specs.Spelling.{word_bytes, words_bytes, path_bytes, level_bytes, mode_number, window_bytes, subject_bytes, blocks_byte, kind_bytes};
+ghost use Rattle.bk_image.specs.Spelling.{word_bytes, words_bytes, path_bytes, level_bytes, mode_number, window_bytes, subject_bytes, kind_bytes};
 ghost use Rattle.bk_image.specs.Spelling.{row_byte, row_bytes, object_bytes, hold_bytes};
 ghost use Rattle.bk_image.specs.Writing.{windows_fit, object_fits, LevelFits, WindowFits, SubjectFits, RowFits, ObjectFits, HoldFits};
 
@@ -122,34 +121,13 @@ pub(crate) fn put_subjects(out: &mut Vec<u8>, subjects: &[SubjectRec]) -> Result
     Ok(())
 }
 
-fn kind_number(kind: Kind) -> u8
-    ensures { result ≡ kind_number kind }
-{
-    match kind {
-        Kind::Directory => 0,
-        Kind::Segment => 1,
-        Kind::Mailbox => 2,
-        Kind::Line(_) => 3,
-    }
-}
-
-// The number of a line, and the blocks of all else.
-fn blocks_byte(kind: Kind, blocks: u8) -> u8
-    ensures { result ≡ blocks_byte kind blocks }
-{
-    match kind {
-        Kind::Directory | Kind::Segment | Kind::Mailbox => blocks,
-        Kind::Line(n) => n,
-    }
-}
-
 // A byte of a row: two subjects, the lower one in its low half.
 fn row_byte(row: &Row, place: u8) -> u8
     requires { place < 16 }
     ensures value { result ≡ row_byte row.now place }
     ensures low { (in_row row.now (2 * place)).0 < 16 }
     ensures high { (in_row row.now (2 * place + 1)).0 < 16 }
-    ensures sets { length row.now ≡ 32 }
+    ensures sets { length row.now ≡ most_subjects }
 {
     let low = row.get(2 * place);
     let high = row.get(2 * place + 1);
@@ -172,8 +150,8 @@ fn put_row(out: &mut Vec<u8>, row: &Row) -> Result<(), AllocError>
 fn put_kind(out: &mut Vec<u8>, facts: &Facts) -> Result<(), AllocError>
     ensures { OnOk result (out.new.items ≡ out.old.items ++ kind_bytes facts.now) }
 {
-    out.push(kind_number(facts.kind))?;
-    out.push(blocks_byte(facts.kind, facts.blocks))?;
+    out.push(facts.kind.number())?;
+    out.push(facts.kind.blocks_or_line(facts.blocks))?;
     out.push(facts.level)?;
     out.push(0)?;
     Ok(())

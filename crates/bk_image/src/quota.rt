@@ -1,6 +1,6 @@
 // What is checked after all objects: no cell is used over its limit, and there are as many line objects as lines.
 
-ghost use Rattle.std.specs.Prelude.{◌≡◌, ◌+◌, ◌*◌, ◌≤◌, ◌==◌, not, length, map, sum_by, MatchResult};
+ghost use Rattle.std.specs.Prelude.{◌≡◌, ◌+◌, ◌*◌, ◌^◌, ◌≤◌, ◌<◌, ◌==◌, not, length, map, sum_by, MatchResult};
 ghost use Rattle.std.specs.List.{count_by};
 ghost use Rattle.bk_object.specs.Kinds as kinds;
 ghost use Rattle.bk_base.specs.declared.stop.Stop.TheVariants as stop;
@@ -57,7 +57,7 @@ fn shares_of(alloc: Global, objects: &[ObjectRec]) -> Result<Vec<Share>, ImageSt
 
 // The used number of the cell: 1, and the charges of all for which it pays.
 fn used(shares: &[Share], cell: Path) -> u64
-    requires { length shares.now ≤ 65535 }
+    requires { length shares.now < 2 ^ 16 }
     ensures { result ≡ 1 + sum_by (part_of cell) shares.now }
 {
     let mut sum = 1u64;
@@ -73,7 +73,7 @@ fn used(shares: &[Share], cell: Path) -> u64
 fn is_over(objects: &[ObjectRec], shares: &[Share], object: &ObjectRec) -> bool
     requires ascending { IsAscending objects.now }
     requires shares { shares.now ≡ map (λ o. share_at (model.objects_in objects.now) o.path o.facts) objects.now }
-    requires few { length shares.now ≤ 65535 }
+    requires few { length shares.now < 2 ^ 16 }
     ensures { result ≡ model.is_over (model.objects_in objects.now) object.now }
 {
     has_cell(objects, object.path, object.facts.kind, object.facts.level)
@@ -94,7 +94,7 @@ fn first_of(found: Option<u32>, at: u32, is_over: bool) -> Option<u32>
 fn check_quotas(objects: &[ObjectRec], shares: &[Share], start: u32) -> Result<(), ImageStop>
     requires ascending { IsAscending objects.now }
     requires shares { shares.now ≡ map (λ o. share_at (model.objects_in objects.now) o.path o.facts) objects.now }
-    requires few { length shares.now ≤ 65535 }
+    requires few { length shares.now < 2 ^ 16 }
     requires fits { start + sum_by model.size objects.now ≤ most_bytes }
     ensures { Gives (λ x. tt) result (model.quotas_at (model.objects_in objects.now) objects.now start) }
 {
@@ -141,7 +141,7 @@ pub(crate) fn check_objects(
     start: u32,
 ) -> Result<(), ImageStop>
     requires ascending { IsAscending objects.now }
-    requires few { length objects.now ≤ 65535 }
+    requires few { length objects.now < 2 ^ 16 }
     requires fits { start + sum_by model.size objects.now ≤ most_bytes }
     ensures { Gives (λ x. tt) result (model.after_objects lines objects.now start) }
 {

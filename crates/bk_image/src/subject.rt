@@ -9,7 +9,6 @@ ghost use Rattle.bk_image.specs.Subjects.{is_mode, mode_of, subject_at, subject_
 ghost use Rattle.bk_image.specs.Views.{rest_of};
 
 use crate::fault::{ImageField, ImageStop};
-use crate::level::level_at;
 use crate::part::{bad, part, word};
 use crate::rest::Rest;
 use crate::window::read_windows;
@@ -23,7 +22,7 @@ use std::alloc::Global;
 pub(crate) fn dominates_at(levels: &LevelTable, above: u8, below: u8) -> bool
     ensures { result ≡ levels_model.dominates (levels_model.level_at levels.now above) (levels_model.level_at levels.now below) }
 {
-    level_at(levels, above).dominates(level_at(levels, below))
+    levels.at(above).dominates(levels.at(below))
 }
 
 fn is_mode(number: u8) -> bool

@@ -5,7 +5,7 @@ ghost use Rattle.std.specs.List.{list_all};
 ghost use Rattle.bk_image.specs.Parts.{Gives};
 ghost use Rattle.bk_image.specs.Image.{image_of};
 ghost use Rattle.bk_image.specs.Spelling.{word_bytes, header_bytes, header_of, spelling};
-ghost use Rattle.bk_image.specs.Writing.{windows_fit, blocks_fit, object_fits, counts_fit, Fits, written};
+ghost use Rattle.bk_image.specs.Writing.{windows_fit, blocks_fit, object_fits, counts_fit, Fits, written_image};
 
 use crate::fault::{ImageField, ImageStop};
 use crate::part::bad;
@@ -125,9 +125,9 @@ fn spell(alloc: Global, image: &Image) -> Result<Vec<u8>, AllocError>
 }
 
 // The bytes, once they have been read.
-#[tactic(auto, unfolding(crate::specs::Writing::written))]
+#[tactic(auto, unfolding(crate::specs::Writing::written_image))]
 fn checked_bytes(alloc: Global, image: &Image) -> Result<Vec<u8>, ImageStop>
-    ensures exact { Gives (λ bytes. bytes.items) result (written image.now) }
+    ensures exact { Gives (λ bytes. bytes.items) result (written_image image.now) }
     ensures fits { IfOk result (λ bytes. Fits image.now) }
 {
     if !counts_fit(image) {
@@ -144,7 +144,7 @@ fn checked_bytes(alloc: Global, image: &Image) -> Result<Vec<u8>, ImageStop>
 /// a line has blocks. Otherwise it is the first fault of the bytes, where they are no image. The format is this project's own.
 pub fn write_image(alloc: Global, image: &Image) -> Result<Vec<u8>, ImageStop>
     // What is written, or why there is nothing to write.
-    ensures exact { Gives (λ bytes. bytes.items) result (written image.now) }
+    ensures exact { Gives (λ bytes. bytes.items) result (written_image image.now) }
     // What is written is read again as the image, whatever follows it.
     ensures again { IfOk result (λ bytes. (more : List ℕ) → image_of (bytes.items ++ more) ≡ Ok (image.now, length bytes.items)) }
 {

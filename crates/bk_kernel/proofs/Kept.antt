@@ -26,7 +26,7 @@ use Rattle.bk_store.specs.Stands.{StandsFor}
 use Rattle.bk_calls.specs.Made.{seen_by}
 use Rattle.bk_calls.specs.declared.caller.Caller.{Caller}
 use Rattle.bk_calls.proofs.Seen.{clearance-seen, subjects-seen}
-use Rattle.bk_system.specs.Turn.{entered, faulted, less, pushed, with_process, with_pushes, written}
+use Rattle.bk_system.specs.Turn.{entered, faulted, less, with_push, with_process, with_pushes, written}
 use Rattle.bk_system.specs.declared.at.At.{At}
 use Rattle.bk_system.specs.Space.{space_of}
 use Rattle.bk_kernel.specs.Tables.{interrupted, ran, served, state_from}
@@ -99,7 +99,7 @@ few-references v s windows regs = exec_most (space_of v s windows) regs
 pushes-only : (v : State) (p : Process) (taken : Bool) → (if taken then with_pushes v p else v) ≡ record v { objects = (if taken then with_pushes v p else v).objects }
 pushes-only v p false = refl
 pushes-only v p true =
-    written-only (pushed p.windows (less p.registers.supervisor 2) (word_of p.registers.ps) v) p.windows (record { mode = Supervisor; space = D; width = Word; addr = less p.registers.supervisor 4; value = p.registers.pc })
+    written-only (with_push p.windows (less p.registers.supervisor 2) (word_of p.registers.ps) v) p.windows (record { mode = Supervisor; space = D; width = Word; addr = less p.registers.supervisor 4; value = p.registers.pc })
     ∙ ap (λ (x : State). record x { objects = (with_pushes v p).objects })
     (written-only v p.windows (record { mode = Supervisor; space = D; width = Word; addr = less p.registers.supervisor 2; value = word_of p.registers.ps }))
 

@@ -10,13 +10,13 @@ use Rattle.bk_process.specs.declared.process.Process.{Process}
 use Rattle.bk_state.specs.State.{State, Object, Contents, Children, Words, Messages, Typed}
 use Rattle.bk_state.specs.Start.{is_line}
 use Rattle.bk_state.specs.declared.clearance.Clearance.{Clearance}
-use Rattle.bk_store.specs.Stored.{Stored, Queue, NoQueue, OfMailbox, OfLine, kept, waiting_in, with_input, with_typed}
+use Rattle.bk_store.specs.Stored.{Stored, Queue, NoQueue, OfMailbox, OfLine, queued, waiting_in, with_input, with_typed}
 use Rattle.bk_store.proofs.Stands.{stands-typed}
 use Rattle.bk_system.specs.Arrivals.{arrived, taking, typed}
 use Rattle.bk_kernel.specs.Tables.{state_from}
 use Rattle.bk_kernel.proofs.Kept.{kept-stands}
 
-typing-agrees : (byte : ℕ) (q : Queue) → waiting_in (with_input (λ bytes. kept bytes byte) q) ≡ typed (byte ∷ []) (waiting_in q)
+typing-agrees : (byte : ℕ) (q : Queue) → waiting_in (with_input (λ bytes. queued bytes byte) q) ≡ typed (byte ∷ []) (waiting_in q)
 typing-agrees byte NoQueue = refl
 typing-agrees byte (OfMailbox waiting) = refl
 typing-agrees byte (OfLine bytes) = refl

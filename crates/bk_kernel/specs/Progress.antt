@@ -14,6 +14,7 @@ use Rattle.bk_system.specs.Loops.{all_arrived}
 use Rattle.bk_system.specs.Slot.{slot_of, subject_of}
 use Rattle.bk_system.specs.Report.{calls_in}
 
+-- how far a run has come: its state, the slots that ended, the turns since the last one ended, and the sums for its last line
 pub record Progress : Type 0 where
   pub state : State
   pub slots : ℕ
@@ -48,6 +49,7 @@ next_turn p subject = turn_of (record { slot = p.slots; turn = p.since; subject 
 unfoldable pub after_turn : Progress → (subject : ℕ) → Progress
 after_turn p subject = with_turns p (next_turn p subject) 1
 
+-- one more slot has ended, and left this state
 abbrev pub with_slot : Progress → State → Progress
 with_slot p v = record p { state = v; slots = raised 32 p.slots 1; since = 0 }
 
@@ -55,6 +57,7 @@ with_slot p v = record p { state = v; slots = raised 32 p.slots 1; since = 0 }
 unfoldable pub after_end : Progress → Progress
 after_end p = with_slot p (slot_ended p.state)
 
+-- what was typed at a slot has arrived
 abbrev pub with_arrived : Progress → List TypedAt → Progress
 with_arrived p records = record p { state = all_arrived p.state records }
 

@@ -23,9 +23,11 @@ state_from clearances lines turns schedule processes store words = record {
   processes = processes;
 }
 
+-- the state that the kernel's tables stand for
 abbrev pub state_kept : Inside → State
 state_kept t = state_from t.clearances.items t.lines.items t.turns t.schedule.items t.processes.items t.store t.core.words
 
+-- the tables are of one image: as many of each as it has
 abbrev pub AreKept : Inside → Type 0
 AreKept t = IsKept t.clearances.items (length t.lines.items) (length t.processes.items) (length t.store.levels) t.store.lines
 
@@ -48,6 +50,7 @@ is_running Running = true
 is_running Paused = false
 is_running (Stopped cause) = false
 
+-- a process is there, and it runs
 abbrev pub runs : Option Process → Bool
 runs None = false
 runs (Some p) = is_running p.status

@@ -8,7 +8,7 @@ ghost use Rattle.bk_report.specs.Text.{IsAnswered};
 ghost use Rattle.bk_report.specs.declared.item.ReportItem.TheVariants.{Call, Fault};
 ghost use Rattle.bk_state.specs.Answers.{called};
 ghost use Rattle.bk_state.specs.Causes.{answer_in, cause_in};
-ghost use Rattle.bk_state.specs.declared.cause.Cause.{Cause as Refusal};
+ghost use Rattle.bk_state.specs.declared.cause.CallCause.{CallCause};
 ghost use Rattle.bk_exec.specs.Exec.{exec};
 ghost use Rattle.bk_calls.specs.Made.{answer_of, line_byte};
 ghost use Rattle.bk_system.specs.Space.{space_of};
@@ -36,8 +36,8 @@ pub(crate) struct Turned {
 
 // The item of a call that found these registers.
 fn call_item(at: At, number: u8, regs: [u16; 6], answer: Answer) -> ReportItem
-    ensures item { (cause : Option Refusal) → answer ≡ answer_of cause → result ≡ Call at.slot at.turn at.subject number regs (answer_in cause) (cause_in cause) }
-    ensures answered { (cause : Option Refusal) → answer ≡ answer_of cause → IsAnswered result }
+    ensures item { (cause : Option CallCause) → answer ≡ answer_of cause → result ≡ Call at.slot at.turn at.subject number regs (answer_in cause) (cause_in cause) }
+    ensures answered { (cause : Option CallCause) → answer ≡ answer_of cause → IsAnswered result }
 {
     let (answer, cause) = match answer {
         Answer::Yes => (0, 0),

@@ -7,7 +7,7 @@ use Rattle.std.specs.FinSet as set
 use Rattle.bk_level.specs.Levels.{Level, dominates}
 use Rattle.bk_level.proofs.LevelOrder.{and_second, dominates-trans}
 use Rattle.bk_path.specs.Paths.{Path, path_cmp}
-use Rattle.bk_object.specs.Modes.{Mode}
+use Rattle.bk_object.specs.Modes.{AccessMode}
 use Rattle.bk_object.specs.Kinds.{is_directory}
 use Rattle.bk_object.specs.declared.Facts.{Facts}
 use Rattle.bk_process.specs.declared.process.Process.{Process}
@@ -22,7 +22,7 @@ use Rattle.bk_laws.proofs.SecureFrame.{is_above}
 -- What lies under the level is the same in both. The second state has the first's fixed part.
 pub record Alike (level : Level) (v w : State) : Type 0 where
   pub process : (s : ℕ) → is_subject_under level v s ≡ true → process_of v s ≡ process_of w s
-  pub holds_same : (s : ℕ) (path : Path) (mode : Mode) → is_subject_under level v s ≡ true → holds v s path mode ≡ holds w s path mode
+  pub holds_same : (s : ℕ) (path : Path) (mode : AccessMode) → is_subject_under level v s ≡ true → holds v s path mode ≡ holds w s path mode
   pub shows_same : (path : Path) → shows level v path ≡ shows level w path
   pub facts : (path : Path) → shows level v path ≡ true → facts_at v path ≡ facts_at w path
   pub contents : (path : Path) → contents_under level v (find v path) ≡ contents_under level v (find w path)
@@ -72,7 +72,7 @@ module _ (level : Level) (v : State) (s : ℕ) (under : is_subject_under level v
   above_under o h = passes_more _ _ o (λ facts is d. dominates-trans level (current_level v s) (level_of v facts) current_under d) h
 
   -- so what the subject holds shows
-  pub held_shows : Secure v → (path : Path) (mode : Mode) → holds v s path mode ≡ true → shows level v path ≡ true
+  pub held_shows : Secure v → (path : Path) (mode : AccessMode) → holds v s path mode ≡ true → shows level v path ≡ true
   held_shows sec [] mode held = refl
   held_shows sec (entry ∷ path) mode held = above_under (facts_at v path) (sec.naming s entry path mode held)
 

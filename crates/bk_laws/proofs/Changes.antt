@@ -7,7 +7,7 @@ use Rattle.std.specs.Ordering.{eq_by_cmp}
 use Rattle.std.specs.FinMap as map
 use Rattle.std.specs.FinSet as set
 use Rattle.bk_base.proofs.MapValues.{get-map_values}
-use Rattle.bk_object.specs.Modes.{Mode}
+use Rattle.bk_object.specs.Modes.{AccessMode}
 use Rattle.bk_object.specs.declared.Facts.{Facts}
 use Rattle.bk_path.specs.Paths.{Path, path_cmp, is_same, is_inferior}
 use Rattle.bk_path.specs.Orders.{path_total, path_apart, same_path, ties-same}
@@ -54,12 +54,12 @@ counter_push p = record { mode = Supervisor; space = D; width = Word; addr = les
 -- ---- accesses
 
 -- what is held after a triple is added
-pub holds-with_triple : (v : State) (s : ℕ) (path : Path) (mode : Mode) (j : ℕ) (other : Path) (x : Mode) →
+pub holds-with_triple : (v : State) (s : ℕ) (path : Path) (mode : AccessMode) (j : ℕ) (other : Path) (x : AccessMode) →
     holds (with_triple v s path mode) j other x ≡ (eq_by_cmp triple_cmp (j, other, x) (s, path, mode) || holds v j other x)
 holds-with_triple v s path mode j other x = set.contains-insert triple_total v.access (s, path, mode) (j, other, x)
 
 -- a triple that is held after one is added is that one, or was held before
-pub held_after : (v : State) (s : ℕ) (path : Path) (mode : Mode) (j : ℕ) (other : Path) (x : Mode) →
+pub held_after : (v : State) (s : ℕ) (path : Path) (mode : AccessMode) (j : ℕ) (other : Path) (x : AccessMode) →
     holds (with_triple v s path mode) j other x ≡ true → ((j ≡ s) × (other ≡ path) × (x ≡ mode)) ⊎ (holds v j other x ≡ true)
 held_after v s path mode j other x e = by (eq_by_cmp triple_cmp (j, other, x) (s, path, mode)) refl (sym (holds-with_triple v s path mode j other x) ∙ e)
   where
@@ -68,7 +68,7 @@ held_after v s path mode j other x e = by (eq_by_cmp triple_cmp (j, other, x) (s
     by false is h = inr h
 
 -- what is left of the access set
-pub holds-retain : (v : State) (keep : Triple → Bool) (s : ℕ) (path : Path) (x : Mode) →
+pub holds-retain : (v : State) (keep : Triple → Bool) (s : ℕ) (path : Path) (x : AccessMode) →
     set.contains (set.retain v.access keep) (s, path, x) ≡ (holds v s path x && keep (s, path, x))
 holds-retain v keep s path x =
     set.contains-retain v.access keep (s, path, x) (λ t same. let parts = same_triple (s, path, x) t (ap is_eq same) in λ i. keep (sym parts.0 i, sym parts.1 i, sym parts.2 i))

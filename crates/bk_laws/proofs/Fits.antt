@@ -7,17 +7,15 @@ use Rattle.std.specs.List.{fold}
 use Rattle.std.specs.Prelude.{if◌then◌else◌}
 use Rattle.bk_level.proofs.LevelOrder.{and_second, and_both}
 use Rattle.bk_space.specs.AddrSpace.{Write}
-use Rattle.bk_space.specs.declared.reference.Width.{Width}
-use Rattle.bk_space.specs.declared.reference.Width.TheVariants.{Word, Byte}
 use Rattle.bk_object.specs.Limits.{most_messages, words_of_message, most_lost, most_typed}
 use Rattle.bk_object.specs.declared.Kind.{Kind}
 use Rattle.bk_object.specs.declared.Kind.TheVariants.{Directory, Segment, Mailbox, Line}
 use Rattle.bk_object.specs.declared.Facts.{Facts}
 use Rattle.bk_state.specs.State.{Fixed, Contents, Words, Messages, Typed}
 use Rattle.bk_state.specs.Secure.{FitsKind}
-use Rattle.bk_state.specs.Contents.{with_word, put, without_message, without_byte, kept}
+use Rattle.bk_state.specs.Contents.{with_word, put, without_message, without_byte, queued}
 use Rattle.bk_system.specs.Arrivals.{typed}
-use Rattle.bk_system.specs.Turn.{stored, stored_in}
+use Rattle.bk_system.specs.Turn.{stored_in}
 
 -- contents that fit a kind fit it after the change
 abbrev pub KeepsFit : (Contents → Contents) → Type 0
@@ -74,14 +72,10 @@ fits_without_byte fixed (Line n) facts (Typed []) h = h
 fits_without_byte fixed (Line n) facts (Typed (byte ∷ bytes)) (none, few, there, level) = (none, omega arith, there, level)
 fits_without_byte fixed (Line n) facts other h = absurd h
 
-length-stored : (width : Width) (addr value : ℕ) (words : List ℕ) → length (stored width addr value words) ≡ length words
-length-stored Word addr value words = length-set words _ _
-length-stored Byte addr value words = length-set words _ _
-
 -- a write of an instruction
 pub fits_stored : (w : Write) → KeepsFit (stored_in w)
 fits_stored w fixed Directory facts c (none, is) = (none, ap (stored_in w) is)
-fits_stored w fixed Segment facts (Words words) (least, most, long) = (least, most, length-stored w.width w.addr w.value words ∙ long)
+fits_stored w fixed Segment facts (Words words) (least, most, long) = (least, most, length-set words _ _ ∙ long)
 fits_stored w fixed Segment facts other h = absurd h
 fits_stored w fixed Mailbox facts (Messages waiting lost) h = h
 fits_stored w fixed Mailbox facts other h = absurd h
@@ -89,9 +83,9 @@ fits_stored w fixed (Line n) facts (Typed bytes) h = h
 fits_stored w fixed (Line n) facts other h = absurd h
 
 -- a line keeps no more bytes than it can
-few_kept : (bytes waiting : List ℕ) → length waiting ≤ most_typed → length (fold kept waiting bytes) ≤ most_typed
+few_kept : (bytes waiting : List ℕ) → length waiting ≤ most_typed → length (fold queued waiting bytes) ≤ most_typed
 few_kept [] waiting few = few
-few_kept (byte ∷ bytes) waiting few = few_kept bytes (kept waiting byte) (by (nat_lt (length waiting) most_typed) refl)
+few_kept (byte ∷ bytes) waiting few = few_kept bytes (queued waiting byte) (by (nat_lt (length waiting) most_typed) refl)
   where
     by : (b : Bool) → nat_lt (length waiting) most_typed ≡ b → length (if b then waiting ++ byte ∷ [] else waiting) ≤ most_typed
     by true is = grind (arith, nat_tests, is, length-append waiting (byte ∷ []))

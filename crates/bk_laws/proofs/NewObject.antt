@@ -10,7 +10,7 @@ use Rattle.bk_level.specs.Levels.{dominates}
 use Rattle.bk_path.specs.Paths.{Path, path_cmp, is_same}
 use Rattle.bk_path.specs.Orders.{path_total, path_apart, same_path, is_same-itself}
 use Rattle.bk_object.specs.Limits.{largest_quota}
-use Rattle.bk_object.specs.Modes.{Mode, has}
+use Rattle.bk_object.specs.Modes.{AccessMode, has}
 use Rattle.bk_object.specs.Kinds.{is_directory}
 use Rattle.bk_object.specs.Rows.{in_row, most_subjects}
 use Rattle.bk_object.specs.declared.Kind.TheVariants.{Line}
@@ -42,7 +42,7 @@ pub record Joins (v : State) (path : Path) (o : Object) : Type 0 where
   pub kind : FitsKind v.fixed o.facts.kind o.facts o.contents
   pub no_line : (n : ℕ) → o.facts.kind ≡ Line n → ⊥
   pub places : length o.facts.row ≡ most_subjects
-  pub row : (s : ℕ) (mode : Mode) → has (in_row o.facts.row s) mode ≡ true → ⊥
+  pub row : (s : ℕ) (mode : AccessMode) → has (in_row o.facts.row s) mode ≡ true → ⊥
   pub room : used v (governing v path) + charge_of o.facts (level_number v path) ≤ quota_at v (governing v path)
   pub limit : is_cell o.facts (level_number v path) ≡ true → (1 ≤ o.facts.quota) × (o.facts.quota ≤ largest_quota)
   pub no_limit : is_cell o.facts (level_number v path) ≡ false → o.facts.quota ≡ 0

@@ -25,10 +25,10 @@ use Rattle.bk_state.specs.declared.rule.Rule.TheVariants.{GetRead, GetAppend, Ge
 use Rattle.bk_system.specs.declared.at.At.{At}
 use Rattle.bk_state.specs.State.{State, Object, Contents, Children, Words, Messages, Typed, find, process_of}
 use Rattle.bk_state.specs.Secure.{Secure, FitsKind}
-use Rattle.bk_state.specs.declared.cause.Cause.{Cause}
-use Rattle.bk_state.specs.declared.cause.Cause.TheVariants.{NotInRow, AboveGreatest, WrongCurrent, NoParentWrite, LevelFalls, Taken, OverQuota}
-use Rattle.bk_state.specs.declared.cause.Cause.TheVariants.{NotHeld, Empty, TooLong, IsRoot, NoCall, NoPath, NotNamed, WrongKind, BadArgument}
-use Rattle.bk_state.specs.declared.cause.Cause.TheVariants.{NoObject}
+use Rattle.bk_state.specs.declared.cause.CallCause.{CallCause}
+use Rattle.bk_state.specs.declared.cause.CallCause.TheVariants.{NotInRow, AboveGreatest, WrongCurrent, NoParentWrite, LevelFalls, Taken, OverQuota}
+use Rattle.bk_state.specs.declared.cause.CallCause.TheVariants.{NotHeld, Empty, TooLong, IsRoot, NoCall, NoPath, NotNamed, WrongKind, BadArgument}
+use Rattle.bk_state.specs.declared.cause.CallCause.TheVariants.{NoObject}
 use Rattle.bk_state.specs.Causes.{cause_number, cause_in}
 use Rattle.bk_state.specs.Calls.{call_of, definition_of, call_refusal}
 use Rattle.bk_state.specs.Request.{Request, register, request_in}
@@ -47,7 +47,7 @@ use Rattle.bk_laws.proofs.Tests.{every-append}
 abbrev pub Numbered : List ReportItem → Type 0
 Numbered told = AllByRecursion IsNumbered told
 
-cause_small : (cause : Cause) → cause_number cause < 2 ^ 64
+cause_small : (cause : CallCause) → cause_number cause < 2 ^ 64
 cause_small NotInRow = omega arith
 cause_small AboveGreatest = omega arith
 cause_small WrongCurrent = omega arith
@@ -66,7 +66,7 @@ cause_small WrongKind = omega arith
 cause_small BadArgument = omega arith
 cause_small NoObject = omega arith
 
-cause_in_small : (cause : Option Cause) → cause_in cause < 2 ^ 64
+cause_in_small : (cause : Option CallCause) → cause_in cause < 2 ^ 64
 cause_in_small None = omega arith
 cause_in_small (Some cause) = cause_small cause
 
@@ -132,7 +132,7 @@ module _ (v : State) (sec : Secure v) where
   unfolding called
   called_line s p number = by_call (call_of number)
     where
-      by_cause : (call : Call) (cause : Option Cause) → IsOnLine v (answered_by v s p call cause).sent
+      by_cause : (call : Call) (cause : Option CallCause) → IsOnLine v (answered_by v s p call cause).sent
       by_cause call None = each_line call (request_in p.registers.general)
       by_cause call (Some cause) = tt
 

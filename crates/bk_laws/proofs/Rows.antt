@@ -3,7 +3,7 @@ use Rattle.std.proofs.Common.{◌≡◌, ℕ, zero, suc, Bool, true, false, ◌&
 use Rattle.std.proofs.Common.{replicate, ◌⊎◌, inl, inr}
 use Rattle.std.proofs.lemmas.Bool.Decides.{nat_tests}
 use Rattle.bk_level.proofs.LevelOrder.{and_first, and_both}
-use Rattle.bk_object.specs.Modes.{Mode, Read, Execute, Write, Append, has, no_modes, union, without, is_within, only}
+use Rattle.bk_object.specs.Modes.{AccessMode, Read, Execute, Write, Append, has, no_modes, union, without, is_within, only}
 use Rattle.bk_object.specs.Rows.{in_row, given, rescinded}
 use Rattle.bk_object.specs.declared.Modes.{Modes}
 use Rattle.bk_object.proofs.ModeLemmas.{has-union, has-without}
@@ -21,7 +21,7 @@ implied : (a b : Bool) → (not a || b) ≡ true → a ≡ true → b ≡ true
 implied true b h is = h
 implied false b h is = cc
 
-fits : (a b : Modes) → Mode → Bool
+fits : (a b : Modes) → AccessMode → Bool
 fits a b mode = not (has a mode) || has b mode
 
 all_fit : (a b : Modes) → is_within a b ≡ true → (fits a b Read ≡ true) × (fits a b Execute ≡ true) × (fits a b Write ≡ true) × (fits a b Append ≡ true)
@@ -29,24 +29,24 @@ unfolding fits
 all_fit a b all = each_of (fits a b Read) (fits a b Execute) (fits a b Write) (fits a b Append) all
 
 -- a set within another has none but the other's modes
-pub within : (a b : Modes) (mode : Mode) → is_within a b ≡ true → has a mode ≡ true → has b mode ≡ true
+pub within : (a b : Modes) (mode : AccessMode) → is_within a b ≡ true → has a mode ≡ true → has b mode ≡ true
 unfolding fits
 within a b Read all h = implied (has a Read) (has b Read) (all_fit a b all).0 h
 within a b Execute all h = implied (has a Execute) (has b Execute) (all_fit a b all).1 h
 within a b Write all h = implied (has a Write) (has b Write) (all_fit a b all).2 h
 within a b Append all h = implied (has a Append) (has b Append) (all_fit a b all).3 h
 
-has-only : (mode : Mode) → has (only mode) mode ≡ true
+has-only : (mode : AccessMode) → has (only mode) mode ≡ true
 has-only Read = refl
 has-only Execute = refl
 has-only Write = refl
 has-only Append = refl
 
 -- a set that the set of one mode is within has the mode
-pub within-only : (mode : Mode) (modes : Modes) → is_within (only mode) modes ≡ true → has modes mode ≡ true
+pub within-only : (mode : AccessMode) (modes : Modes) → is_within (only mode) modes ≡ true → has modes mode ≡ true
 within-only mode modes all = within (only mode) modes mode all (has-only mode)
 
-pub has-no_modes : (mode : Mode) → has no_modes mode ≡ true → ⊥
+pub has-no_modes : (mode : AccessMode) → has no_modes mode ≡ true → ⊥
 has-no_modes Read h = cc
 has-no_modes Execute h = cc
 has-no_modes Write h = cc
@@ -78,7 +78,7 @@ or_left true b e = refl
 or_left false b e = cc
 
 -- what a row has after a gift it had, or it was given
-pub in_row-given : (s : ℕ) (modes : Modes) (row : List Modes) (j : ℕ) (mode : Mode) →
+pub in_row-given : (s : ℕ) (modes : Modes) (row : List Modes) (j : ℕ) (mode : AccessMode) →
     has (in_row (given s modes row) j) mode ≡ true → (has (in_row row j) mode ≡ true) ⊎ ((j ≡ s) × (has modes mode ≡ true))
 in_row-given s modes row j mode h = elim (get_or_set row s j (union (in_row row s) modes)) [
   | inl e ↦ inl (sym (ap (λ m. has m mode) e) ∙ h)
@@ -89,21 +89,21 @@ in_row-given s modes row j mode h = elim (get_or_set row s j (union (in_row row 
 ]
 
 -- a gift takes nothing away
-pub given_keeps : (s : ℕ) (modes : Modes) (row : List Modes) (j : ℕ) (mode : Mode) → has (in_row row j) mode ≡ true → has (in_row (given s modes row) j) mode ≡ true
+pub given_keeps : (s : ℕ) (modes : Modes) (row : List Modes) (j : ℕ) (mode : AccessMode) → has (in_row row j) mode ≡ true → has (in_row (given s modes row) j) mode ≡ true
 given_keeps s modes row j mode h = elim (get_or_set row s j (union (in_row row s) modes)) [
   | inl e ↦ ap (λ m. has m mode) e ∙ h
   | inr (at, e) ↦ ap (λ m. has m mode) e ∙ has-union (in_row row s) modes mode ∙ or_left _ _ (sym (ap (λ k. has (in_row row k) mode) at) ∙ h)
 ]
 
 -- what a row has after a rescission it had
-pub in_row-rescinded : (s : ℕ) (modes : Modes) (row : List Modes) (j : ℕ) (mode : Mode) → has (in_row (rescinded s modes row) j) mode ≡ true → has (in_row row j) mode ≡ true
+pub in_row-rescinded : (s : ℕ) (modes : Modes) (row : List Modes) (j : ℕ) (mode : AccessMode) → has (in_row (rescinded s modes row) j) mode ≡ true → has (in_row row j) mode ≡ true
 in_row-rescinded s modes row j mode h = elim (get_or_set row s j (without (in_row row s) modes)) [
   | inl e ↦ sym (ap (λ m. has m mode) e) ∙ h
   | inr (at, e) ↦ ap (λ k. has (in_row row k) mode) at ∙ and_first _ _ (sym (has-without (in_row row s) modes mode) ∙ sym (ap (λ m. has m mode) e) ∙ h)
 ]
 
 -- a mode that isn't rescinded stays
-pub rescinded_keeps : (s : ℕ) (modes : Modes) (row : List Modes) (j : ℕ) (mode : Mode) →
+pub rescinded_keeps : (s : ℕ) (modes : Modes) (row : List Modes) (j : ℕ) (mode : AccessMode) →
     has (in_row row j) mode ≡ true → not ((j == s) && has modes mode) ≡ true → has (in_row (rescinded s modes row) j) mode ≡ true
 rescinded_keeps s modes row j mode h stays = elim (get_or_set row s j (without (in_row row s) modes)) [
   | inl e ↦ ap (λ m. has m mode) e ∙ h

@@ -10,10 +10,10 @@ use Rattle.bk_process.specs.declared.status.Status9.{Status9}
 use Rattle.bk_process.specs.declared.status.Status9.TheVariants.{Running, Paused, Stopped}
 use Rattle.bk_state.specs.declared.call.Call.{Call}
 use Rattle.bk_state.specs.Causes.{answer_number, cause_number}
-use Rattle.bk_state.specs.declared.cause.Cause.TheVariants.{NoCall}
+use Rattle.bk_state.specs.declared.cause.CallCause.TheVariants.{NoCall}
 use Rattle.bk_state.specs.State.{State, process_of}
 use Rattle.bk_state.specs.Secure.{Secure}
-use Rattle.bk_state.specs.declared.cause.Cause.{Cause}
+use Rattle.bk_state.specs.declared.cause.CallCause.{CallCause}
 use Rattle.bk_state.specs.Calls.{call_of, call_refusal}
 use Rattle.bk_state.specs.Request.{request_in}
 use Rattle.bk_state.specs.Answers.{Called, outcome, reply, with_call, answered_by, called_by, called}
@@ -49,7 +49,7 @@ abbrev left_by : State → (s : ℕ) → Called → State
 left_by v s c = record v { objects = c.objects; access = c.access; processes = slice_set v.processes s c.process }
 
 module _ (v : State) (at : At) (p : Process) (sec : Secure v) (sound : IsSound p) where
-  secure_answered : (call : Call) (o : Option Cause) → call_refusal v at.subject call p.registers.general ≡ o → Secure (left_by v at.subject (answered_by v at.subject p call o))
+  secure_answered : (call : Call) (o : Option CallCause) → call_refusal v at.subject call p.registers.general ≡ o → Secure (left_by v at.subject (answered_by v at.subject p call o))
   secure_answered call None is =
       secure_joined v (outcome v at.subject call p.registers.general) at.subject _ (outcome-changes v at.subject call p.registers.general)
       (secure_outcome v at.subject call p.registers.general sec is)

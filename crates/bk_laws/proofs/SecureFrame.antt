@@ -7,7 +7,7 @@ use Rattle.std.specs.FinSet as set
 use Rattle.std.specs.List.{list_all}
 use Rattle.bk_level.specs.Levels.{dominates}
 use Rattle.bk_path.specs.Paths.{Path, path_cmp}
-use Rattle.bk_object.specs.Modes.{Mode, has}
+use Rattle.bk_object.specs.Modes.{AccessMode, has}
 use Rattle.bk_object.specs.Kinds.{kind_modes, is_directory}
 use Rattle.bk_object.specs.Rows.{in_row, most_subjects}
 use Rattle.bk_object.specs.declared.Modes.{Modes}
@@ -21,7 +21,7 @@ use Rattle.bk_laws.proofs.Changes.{with_objects, moved}
 use Rattle.bk_laws.proofs.Shapes.{shape, shape_at, shape_back, passes-shape, is_upgraded-same, quota_at-same, used-same}
 
 -- an object's row has the mode for the subject, and the levels allow it
-abbrev pub may_hold : State → (s : ℕ) → Mode → Facts → Bool
+abbrev pub may_hold : State → (s : ℕ) → AccessMode → Facts → Bool
 may_hold v s mode facts = has (in_row facts.row s) mode && is_allowed v s facts mode
 
 -- the subject's current level dominates that of a directory with these facts
@@ -31,7 +31,7 @@ is_above v s directory = dominates (current_level v s) (level_of v directory)
 -- a row has all its places, and what it has for a subject is a mode of the kind, and the subject is there
 abbrev pub RowFits : State → Facts → (row : List Modes) → Type 0
 RowFits v facts row = (length row ≡ most_subjects) ×
-    ((s : ℕ) (mode : Mode) → has (in_row row s) mode ≡ true → (has (kind_modes facts.kind) mode ≡ true) × (s < length v.fixed.subjects))
+    ((s : ℕ) (mode : AccessMode) → has (in_row row s) mode ≡ true → (has (kind_modes facts.kind) mode ≡ true) × (s < length v.fixed.subjects))
 
 -- the rows of a secure state fit
 pub rows_fit : (v : State) → Secure v → (path : Path) (facts : Facts) → facts_at v path ≡ Some facts → RowFits v facts facts.row
@@ -81,8 +81,8 @@ module _ (v : State) (objects : map.FinMap path_cmp Object) (access : set.FinSet
   pub secure_frame :
       ((q : Path) (o : Object) → map.get objects q ≡ Some o → FitsKind v.fixed o.facts.kind o.facts o.contents) →
       ((q : Path) (facts : Facts) → facts_at w q ≡ Some facts → RowFits v facts facts.row) →
-      ((s : ℕ) (q : Path) (mode : Mode) → holds w s q mode ≡ true → passes (may_hold v s mode) (facts_at w q) ≡ true) →
-      ((s entry : ℕ) (q : Path) (mode : Mode) → holds w s (entry ∷ q) mode ≡ true → passes (is_above v s) (facts_at v q) ≡ true) →
+      ((s : ℕ) (q : Path) (mode : AccessMode) → holds w s q mode ≡ true → passes (may_hold v s mode) (facts_at w q) ≡ true) →
+      ((s entry : ℕ) (q : Path) (mode : AccessMode) → holds w s (entry ∷ q) mode ≡ true → passes (is_above v s) (facts_at v q) ≡ true) →
       length processes ≡ length v.fixed.subjects → AreSound processes → Secure w
   secure_frame kinds rows allowed named many sound = record {
     processes = many;
@@ -110,14 +110,14 @@ module _ (v : State) (objects : map.FinMap path_cmp Object) (access : set.FinSet
 pub secure_reshaped : (v : State) (objects : map.FinMap path_cmp Object) → Secure v → ((q : Path) → shape_at (with_objects v objects) q ≡ shape_at v q) →
     ((q : Path) (o : Object) → map.get objects q ≡ Some o → FitsKind v.fixed o.facts.kind o.facts o.contents) →
     ((q : Path) (facts : Facts) → facts_at (with_objects v objects) q ≡ Some facts → RowFits v facts facts.row) →
-    ((s : ℕ) (q : Path) (mode : Mode) → holds v s q mode ≡ true → passes (may_hold v s mode) (facts_at (with_objects v objects) q) ≡ true) →
+    ((s : ℕ) (q : Path) (mode : AccessMode) → holds v s q mode ≡ true → passes (may_hold v s mode) (facts_at (with_objects v objects) q) ≡ true) →
     Secure (with_objects v objects)
 secure_reshaped v objects sec same kinds rows allowed = secure_frame v objects v.access v.processes sec same kinds rows allowed sec.naming sec.processes (are_sound v sec)
 
 -- other accesses and other processes
 pub secure_beside : (v : State) (access : set.FinSet triple_cmp) (processes : List Process) → Secure v →
-    ((s : ℕ) (q : Path) (mode : Mode) → set.contains access (s, q, mode) ≡ true → passes (may_hold v s mode) (facts_at v q) ≡ true) →
-    ((s entry : ℕ) (q : Path) (mode : Mode) → set.contains access (s, entry ∷ q, mode) ≡ true → passes (is_above v s) (facts_at v q) ≡ true) →
+    ((s : ℕ) (q : Path) (mode : AccessMode) → set.contains access (s, q, mode) ≡ true → passes (may_hold v s mode) (facts_at v q) ≡ true) →
+    ((s entry : ℕ) (q : Path) (mode : AccessMode) → set.contains access (s, entry ∷ q, mode) ≡ true → passes (is_above v s) (facts_at v q) ≡ true) →
     length processes ≡ length v.fixed.subjects → AreSound processes →
     Secure (record v { access = access; processes = processes })
 secure_beside v access processes sec = secure_frame v v.objects access processes sec (λ q. refl) sec.kinds (rows_fit v sec)

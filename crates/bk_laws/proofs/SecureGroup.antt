@@ -5,7 +5,7 @@ use Rattle.std.specs.Prelude.{option_map, if◌then◌else◌}
 use Rattle.bk_level.proofs.LevelOrder.{and_first, and_second}
 use Rattle.bk_path.specs.Paths.{Path, is_same, is_inferior, is_root}
 use Rattle.bk_object.specs.Limits.{largest_quota}
-use Rattle.bk_object.specs.Modes.{Mode}
+use Rattle.bk_object.specs.Modes.{AccessMode}
 use Rattle.bk_object.specs.declared.Facts.{Facts}
 use Rattle.bk_quota.specs.Charges.{passes, charge_of}
 use Rattle.bk_state.specs.State.{State, Object, find, facts_at, holds}
@@ -75,7 +75,7 @@ module _ (v : State) (path : Path) where
       less q false is = le_of_eq (ap (share_at w cell q) (group_kept q is) ∙ same q (facts_at v q) is)
 
   -- an access that is left is to an object outside
-  pub held_left : (s : ℕ) (q : Path) (mode : Mode) → holds w s q mode ≡ true → (holds v s q mode ≡ true) × (is_inferior q path ≡ false)
+  pub held_left : (s : ℕ) (q : Path) (mode : AccessMode) → holds w s q mode ≡ true → (holds v s q mode ≡ true) × (is_inferior q path ≡ false)
   held_left s q mode h =
       let both = sym (holds-retain v (λ t. not (is_inferior t.1 path)) s q mode) ∙ h in
       (and_first _ _ both, turned (is_inferior q path) (and_second (holds v s q mode) (not (is_inferior q path)) both))

@@ -7,7 +7,7 @@ use Rattle.std.specs.FinMap as map
 use Rattle.bk_level.proofs.LevelOrder.{and_first, and_second, and_both}
 use Rattle.bk_path.specs.Paths.{Path, path_cmp, is_same}
 use Rattle.bk_path.specs.Orders.{same_path, is_same-itself}
-use Rattle.bk_object.specs.Modes.{Mode, has, is_within}
+use Rattle.bk_object.specs.Modes.{AccessMode, has, is_within}
 use Rattle.bk_object.specs.Kinds.{kind_modes}
 use Rattle.bk_object.specs.Rows.{in_row, given, rescinded}
 use Rattle.bk_object.specs.declared.Kind.{Kind}
@@ -54,7 +54,7 @@ module _ (v : State) (path : Path) (f : List Modes → List Modes) (o : Object) 
   -- the row of the object becomes one that fits and keeps what is held
   pub secure_with_row : Secure v →
       RowFits v o.facts (f o.facts.row) →
-      ((s : ℕ) (mode : Mode) → holds v s path mode ≡ true → has (in_row o.facts.row s) mode ≡ true → has (in_row (f o.facts.row) s) mode ≡ true) →
+      ((s : ℕ) (mode : AccessMode) → holds v s path mode ≡ true → has (in_row o.facts.row s) mode ≡ true → has (in_row (f o.facts.row) s) mode ≡ true) →
       Secure (with_objects v other_objects)
   secure_with_row sec fits keeps = secure_reshaped v other_objects sec same_shape
       (λ q y is. kinds q y (is_same q path) refl (sym (find-insert v path (with_row f o) q) ∙ is))
@@ -70,7 +70,7 @@ module _ (v : State) (path : Path) (f : List Modes → List Modes) (o : Object) 
       rows q g true same is = subst (λ y. RowFits v y y.row) (some_same is) fits
       rows q g false same is = rows_fit v sec q g is
 
-      access : (s : ℕ) (q : Path) (mode : Mode) → holds v s q mode ≡ true → (b : Bool) → is_same q path ≡ b → passes (may_hold v s mode) (if b then Some (with_row f o).facts else facts_at v q) ≡ true
+      access : (s : ℕ) (q : Path) (mode : AccessMode) → holds v s q mode ≡ true → (b : Bool) → is_same q path ≡ b → passes (may_hold v s mode) (if b then Some (with_row f o).facts else facts_at v q) ≡ true
       access s q mode h true same =
           let old : may_hold v s mode o.facts ≡ true = subst (λ a. passes (may_hold v s mode) a ≡ true) (facts_there q same) (sec.access s q mode h) in
           and_both _ _ (keeps s mode (ap (λ q. holds v s q mode) (sym (same_path q path same)) ∙ h) (and_first _ _ old)) (and_second (has (in_row o.facts.row s) mode) _ old)
@@ -117,7 +117,7 @@ secure_rescinded v path s modes (Some o) is sec = secure_with_row (without_tripl
     old : RowFits v o.facts o.facts.row
     old = rows_fit v sec path o.facts (ap facts_in is)
 
-    stays : (j : ℕ) (mode : Mode) → holds (without_triples v s path modes) j path mode ≡ true → not ((j == s) && has modes mode) ≡ true
+    stays : (j : ℕ) (mode : AccessMode) → holds (without_triples v s path modes) j path mode ≡ true → not ((j == s) && has modes mode) ≡ true
     stays j mode h =
         let both = sym (holds-retain v (λ t. not ((t.0 == s) && is_same t.1 path && has modes t.2)) j path mode) ∙ h in
         let one = and_second (holds v j path mode) (not ((j == s) && is_same path path && has modes mode)) both in

@@ -5,7 +5,7 @@ use Rattle.std.specs.List.{list_any, AllByRecursion}
 use Rattle.bk_level.specs.Levels.{Level}
 use Rattle.bk_state.specs.Secure.{Secure}
 use Rattle.bk_path.specs.Paths.{Path, parent}
-use Rattle.bk_object.specs.Modes.{Mode, Read, Execute, Write, Append}
+use Rattle.bk_object.specs.Modes.{AccessMode, Read, Execute, Write, Append}
 use Rattle.bk_object.specs.Kinds.{is_directory}
 use Rattle.bk_quota.specs.Charges.{passes}
 use Rattle.bk_state.specs.State.{State, facts_at, holds}
@@ -16,7 +16,7 @@ use Rattle.bk_laws.proofs.Alike.{Alike, fixed_to, shows_under, above_under}
 
 module _ (level : Level) (v : State) (sec : Secure v) (s : ℕ) (seen : is_subject_under level v s ≡ true) where
   -- what it holds by another mode than append lies under the level, and so what it reads, executes or writes
-  pub other_under : (path : Path) (mode : Mode) → mode ≢ Append → holds v s path mode ≡ true → passes (is_under level v) (facts_at v path) ≡ true
+  pub other_under : (path : Path) (mode : AccessMode) → mode ≢ Append → holds v s path mode ≡ true → passes (is_under level v) (facts_at v path) ≡ true
   other_under path mode other held = above_under level v s seen (facts_at v path) (held_under v s path mode sec other held)
 
   pub read_under : (path : Path) → holds v s path Read ≡ true → passes (is_under level v) (facts_at v path) ≡ true
@@ -29,7 +29,7 @@ module _ (level : Level) (v : State) (sec : Secure v) (s : ℕ) (seen : is_subje
   written_under path held = other_under path Write (λ e. cc) held
 
   -- what it holds by one of some modes, where each of them means that the object lies under the level
-  pub any_under : (path : Path) (modes : List Mode) → AllByRecursion (λ mode. holds v s path mode ≡ true → passes (is_under level v) (facts_at v path) ≡ true) modes →
+  pub any_under : (path : Path) (modes : List AccessMode) → AllByRecursion (λ mode. holds v s path mode ≡ true → passes (is_under level v) (facts_at v path) ≡ true) modes →
       list_any (holds v s path) modes ≡ true → passes (is_under level v) (facts_at v path) ≡ true
   any_under path [] each held = cc
   any_under path (mode ∷ modes) each held = by (holds v s path mode) refl held (any_under path modes each.1)
@@ -76,5 +76,5 @@ module _ (level : Level) (v w0 : State) (sv : Secure v) (sw : Secure (fixed_to v
         ∙ (λ i. passes (λ facts. is_directory facts.kind) (facts_at w path) && (alike.holds_same s path Read seen i || alike.holds_same s path Write seen i))
 
     -- what it holds by one of some modes
-    pub held-seen : (path : Path) (modes : List Mode) → list_any (holds v s path) modes ≡ list_any (holds w s path) modes
+    pub held-seen : (path : Path) (modes : List AccessMode) → list_any (holds v s path) modes ≡ list_any (holds w s path) modes
     held-seen path modes = λ i. list_any (λ mode. alike.holds_same s path mode seen i) modes

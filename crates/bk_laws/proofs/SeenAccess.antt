@@ -7,7 +7,7 @@ use Rattle.std.specs.Ordering.{eq_by_cmp}
 use Rattle.std.specs.FinSet as set
 use Rattle.bk_level.specs.Levels.{Level}
 use Rattle.bk_path.specs.Paths.{Path}
-use Rattle.bk_object.specs.Modes.{Mode}
+use Rattle.bk_object.specs.Modes.{AccessMode}
 use Rattle.bk_process.specs.declared.process.Process.{Process}
 use Rattle.bk_state.specs.State.{State, Triple, triple_cmp}
 use Rattle.bk_state.specs.AccessCalls.{with_triple}
@@ -17,7 +17,7 @@ use Rattle.bk_laws.proofs.Alike.{Alike, fixed_to}
 
 module _ (level : Level) (v w : State) (alike : Alike level v (fixed_to v.fixed w)) where
   -- a subject holds an object by one mode more
-  pub alike-with_triple : (s : ℕ) (path : Path) (mode : Mode) → Alike level (with_triple v s path mode) (with_triple (fixed_to v.fixed w) s path mode)
+  pub alike-with_triple : (s : ℕ) (path : Path) (mode : AccessMode) → Alike level (with_triple v s path mode) (with_triple (fixed_to v.fixed w) s path mode)
   alike-with_triple s path mode = record {
     process = alike.process;
     holds_same =

@@ -19,7 +19,7 @@ use Rattle.bk_state.specs.declared.call.Service.TheVariants.{SetFaultEntry, Stop
 use Rattle.bk_state.specs.State.{State, Object, Contents, Triple, triple_cmp, facts_at, level_of}
 use Rattle.bk_state.specs.Quota.{level_number}
 use Rattle.bk_state.specs.Secure.{Secure}
-use Rattle.bk_state.specs.declared.cause.Cause.{Cause}
+use Rattle.bk_state.specs.declared.cause.CallCause.{CallCause}
 use Rattle.bk_state.specs.Request.{Request, register, request_in, new_facts}
 use Rattle.bk_state.specs.QueueCalls.{message_in}
 use Rattle.bk_state.specs.Calls.{call_of, definition_of, call_refusal}
@@ -149,7 +149,7 @@ module _ (level : Level) (v w0 : State) (sv : Secure v) (sw : Secure (fixed_to v
     pub cause : a.cause ≡ b.cause
     pub sent : a.sent ≡ b.sent
 
-  answered-seen : (p : Process) (call : Call) (o : Option Cause) → call_refusal v s call p.registers.general ≡ o → CalledAlike (answered_by v s p call o) (answered_by w s p call o)
+  answered-seen : (p : Process) (call : Call) (o : Option CallCause) → call_refusal v s call p.registers.general ≡ o → CalledAlike (answered_by v s p call o) (answered_by w s p call o)
   answered-seen p call None is =
       let none = not_refused v s call p.registers.general is in
       record {

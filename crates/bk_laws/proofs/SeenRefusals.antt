@@ -18,9 +18,9 @@ use Rattle.bk_state.specs.declared.call.Service.TheVariants.{SetFaultEntry, Stop
 use Rattle.bk_state.specs.State.{State, Contents, find, facts_at, holds, current_level, greatest_level, level_of}
 use Rattle.bk_state.specs.Quota.{governing, level_number, quota_at, used}
 use Rattle.bk_state.specs.Secure.{Secure}
-use Rattle.bk_state.specs.declared.cause.Cause.{Cause}
-use Rattle.bk_state.specs.declared.cause.Cause.TheVariants.{NoPath, BadArgument, NotInRow, AboveGreatest, WrongCurrent, NoParentWrite, LevelFalls}
-use Rattle.bk_state.specs.declared.cause.Cause.TheVariants.{Taken, NotHeld, TooLong, IsRoot, NotNamed, WrongKind, NoObject}
+use Rattle.bk_state.specs.declared.cause.CallCause.{CallCause}
+use Rattle.bk_state.specs.declared.cause.CallCause.TheVariants.{NoPath, BadArgument, NotInRow, AboveGreatest, WrongCurrent, NoParentWrite, LevelFalls}
+use Rattle.bk_state.specs.declared.cause.CallCause.TheVariants.{Taken, NotHeld, TooLong, IsRoot, NotNamed, WrongKind, NoObject}
 use Rattle.bk_state.specs.Request.{Request, register, request_in, new_facts}
 use Rattle.bk_state.specs.Allowed.{is_simple, is_star, by_mode}
 use Rattle.bk_state.specs.AccessCalls.{get_read, get_append, get_execute, get_write}
@@ -47,7 +47,7 @@ module _ (level : Level) (v w0 : State) (sv : Secure v) (sw : Secure (fixed_to v
   -- ---- checks
 
   -- those that look at the facts of the object and of its parent, and at the caller's own accesses, alone
-  data Plain : Cause → Type 0 where
+  data Plain : CallCause → Type 0 where
     plain_object : Plain NoObject
     plain_kind : Plain WrongKind
     plain_root : Plain IsRoot
@@ -60,7 +60,7 @@ module _ (level : Level) (v w0 : State) (sv : Secure v) (sw : Secure (fixed_to v
     plain_held : Plain NotHeld
     plain_long : Plain TooLong
 
-  plain-seen : (call : KernelCall) (request : Request) {cause : Cause} → Plain cause → shows level v request.path ≡ true → fails v s call request cause ≡ fails w s call request cause
+  plain-seen : (call : KernelCall) (request : Request) {cause : CallCause} → Plain cause → shows level v request.path ≡ true → fails v s call request cause ≡ fails w s call request cause
   plain-seen call request plain_object h = ap is_none (alike.facts request.path h)
   plain-seen call request plain_kind h =
       ap (λ a. not (passes (λ facts. call.is_for facts.kind && is_within (call.modes request) (kind_modes facts.kind)) a)) (alike.facts request.path h)
@@ -112,13 +112,13 @@ module _ (level : Level) (v w0 : State) (sv : Secure v) (sw : Secure (fixed_to v
   -- ---- the first check that fails
 
   -- the first of these that fails is the same in both
-  record Agrees (call : KernelCall) (request : Request) (causes : List Cause) : Type 0 where
+  record Agrees (call : KernelCall) (request : Request) (causes : List CallCause) : Type 0 where
     same : first (fails v s call request) causes ≡ first (fails w s call request) causes
 
   agree_none : (call : KernelCall) (request : Request) → Agrees call request []
   agree_none call request = record { same = refl }
 
-  agree_then : {call : KernelCall} {request : Request} {cause : Cause} {causes : List Cause} → fails v s call request cause ≡ fails w s call request cause →
+  agree_then : {call : KernelCall} {request : Request} {cause : CallCause} {causes : List CallCause} → fails v s call request cause ≡ fails w s call request cause →
       (fails v s call request cause ≡ false → Agrees call request causes) → Agrees call request (cause ∷ causes)
   agree_then {call} {request} {cause} {causes} same rest = record { same = by (fails v s call request cause) refl ∙ ap (λ b. cond b (Some cause) (first (fails w s call request) causes)) same }
     where
@@ -126,25 +126,25 @@ module _ (level : Level) (v w0 : State) (sv : Secure v) (sw : Secure (fixed_to v
       by true is = refl
       by false is = (rest is).same
 
-  plain_then : {call : KernelCall} {request : Request} {cause : Cause} {causes : List Cause} → shows level v request.path ≡ true → Plain cause →
+  plain_then : {call : KernelCall} {request : Request} {cause : CallCause} {causes : List CallCause} → shows level v request.path ≡ true → Plain cause →
       (fails v s call request cause ≡ false → Agrees call request causes) → Agrees call request (cause ∷ causes)
   plain_then {call} {request} h plain rest = agree_then (plain-seen call request plain h) rest
 
-  plain_all : (call : KernelCall) (request : Request) (causes : List Cause) → AllByRecursion Plain causes → shows level v request.path ≡ true → Agrees call request causes
+  plain_all : (call : KernelCall) (request : Request) (causes : List CallCause) → AllByRecursion Plain causes → shows level v request.path ≡ true → Agrees call request causes
   plain_all call request [] all h = agree_none call request
   plain_all call request (cause ∷ causes) all h = agree_then (plain-seen call request all.0 h) (λ _. plain_all call request causes all.1 h)
 
-  named_then : {call : KernelCall} {request : Request} {causes : List Cause} → (is_named v s request.path ≡ true → shows level v request.path ≡ true → Agrees call request causes) →
+  named_then : {call : KernelCall} {request : Request} {causes : List CallCause} → (is_named v s request.path ≡ true → shows level v request.path ≡ true → Agrees call request causes) →
       Agrees call request (NotNamed ∷ causes)
   named_then {call} {request} rest = agree_then (ap not (is_named-seen level v w0 sv sw alike s seen request.path))
       (λ is. rest (not_false _ is) (named_shows level v sv s seen request.path (not_false _ is)))
 
   -- a path, a name, and then plain checks
-  path_named : (call : KernelCall) (request : Request) (causes : List Cause) → AllByRecursion Plain causes → Agrees call request (NoPath ∷ NotNamed ∷ causes)
+  path_named : (call : KernelCall) (request : Request) (causes : List CallCause) → AllByRecursion Plain causes → Agrees call request (NoPath ∷ NotNamed ∷ causes)
   path_named call request causes all = agree_then refl (λ _. named_then (λ named h. plain_all call request causes all h))
 
   -- with the argument between them, of which both states judge alike
-  argument_named : (call : KernelCall) (request : Request) (causes : List Cause) → call.is_wrong v request ≡ call.is_wrong w request → AllByRecursion Plain causes →
+  argument_named : (call : KernelCall) (request : Request) (causes : List CallCause) → call.is_wrong v request ≡ call.is_wrong w request → AllByRecursion Plain causes →
       Agrees call request (NoPath ∷ BadArgument ∷ NotNamed ∷ causes)
   argument_named call request causes wrong all = agree_then refl (λ _. agree_then wrong (λ _. named_then (λ named h. plain_all call request causes all h)))
 

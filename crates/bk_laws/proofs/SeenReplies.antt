@@ -3,7 +3,7 @@ use Rattle.std.proofs.Common.{◌≡◌, ℕ, ◌+◌, ◌*◌, ◌%◌, Bool, t
 use Rattle.bk_level.specs.Levels.{Level}
 use Rattle.bk_path.specs.Paths.{Path}
 use Rattle.bk_object.specs.Modes.{modes_where, no_modes, is_within}
-use Rattle.bk_object.specs.Kinds.{is_directory, kind_modes, kind_number}
+use Rattle.bk_object.specs.Kinds.{is_directory, kind_modes, kind_number, blocks_or_line}
 use Rattle.bk_object.specs.Rows.{in_row}
 use Rattle.bk_object.specs.declared.Facts.{Facts}
 use Rattle.bk_quota.specs.Charges.{passes}
@@ -12,11 +12,11 @@ use Rattle.bk_state.specs.declared.call.Call.TheVariants.{ByRule, Other}
 use Rattle.bk_state.specs.declared.call.Service.TheVariants.{Window, Unwindow, Deposit, Send, Receive, LineOut, LineIn, Entry, Identify, Quota}
 use Rattle.bk_state.specs.declared.call.Service.TheVariants.{Pause, SetFaultEntry, Stop}
 use Rattle.bk_state.specs.declared.rule.Rule.TheVariants.{GetRead, GetAppend, GetExecute, GetWrite, Release, Give, Rescind, Create, DeleteGroup}
-use Rattle.bk_state.specs.declared.cause.Cause.TheVariants.{WrongKind}
+use Rattle.bk_state.specs.declared.cause.CallCause.TheVariants.{WrongKind}
 use Rattle.bk_state.specs.State.{State, Object, Children, find, facts_at}
 use Rattle.bk_state.specs.Secure.{Secure}
 use Rattle.bk_state.specs.Request.{Request, register, request_in}
-use Rattle.bk_state.specs.TellingCalls.{child_at, size_of, entry_values, entry, quota}
+use Rattle.bk_state.specs.TellingCalls.{child_at, entry_values, entry, quota}
 use Rattle.bk_state.specs.KernelCall.{KernelCall, fails}
 use Rattle.bk_state.specs.Calls.{definition_of}
 use Rattle.bk_state.specs.QueueCalls.{message_values, byte_values, of_contents, byte_on, receive, line_out, line_in}
@@ -43,7 +43,7 @@ module _ (level : Level) (v w0 : State) (sv : Secure v) (sw : Secure (fixed_to v
   entry-seen : (child : Path) (o : Option Facts) → entry_values v s child o ≡ entry_values w s child o
   entry-seen child None = refl
   entry-seen child (Some facts) = λ i.
-      0 ∷ 0 ∷ (256 * kind_number facts.kind + size_of facts.kind facts.blocks) ∷ facts.level
+      0 ∷ 0 ∷ (256 * kind_number facts.kind + blocks_or_line facts.kind facts.blocks) ∷ facts.level
       ∷ (modes_where (λ mode. alike.holds_same s child mode seen i)).0 ∷ (in_row facts.row s).0 ∷ []
 
   -- what a call that is answered yes tells its caller, and the byte that it sends, are the same in both

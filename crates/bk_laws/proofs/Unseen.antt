@@ -19,7 +19,7 @@ use Rattle.bk_laws.proofs.Changes.{facts_in, with_objects, holds-with_triple, ho
 use Rattle.bk_laws.proofs.Changes.{facts_at-contents, find-without_group}
 use Rattle.bk_path.specs.Paths.{Path, is_same, is_inferior}
 use Rattle.bk_path.specs.Orders.{same_path}
-use Rattle.bk_object.specs.Modes.{Mode, Write, Append, has}
+use Rattle.bk_object.specs.Modes.{AccessMode, Write, Append, has}
 use Rattle.bk_object.specs.Rows.{in_row}
 use Rattle.bk_object.specs.declared.Facts.{Facts}
 use Rattle.bk_object.specs.declared.Modes.{Modes}
@@ -101,7 +101,7 @@ module _ (level : Level) (v : State) (sec : Secure v) where
     contents = λ q. contents q (is_inferior q path) refl ∙ sym (ap (contents_under level v) (find-without_group v path q));
   }
     where
-      held : (s : ℕ) (q : Path) (mode : Mode) → is_subject_under level v s ≡ true → (a : Bool) → holds v s q mode ≡ a → (b : Bool) → is_inferior q path ≡ b → (a && not b) ≡ a
+      held : (s : ℕ) (q : Path) (mode : AccessMode) → is_subject_under level v s ≡ true → (a : Bool) → holds v s q mode ≡ a → (b : Bool) → is_inferior q path ≡ b → (a && not b) ≡ a
       held s q mode under true is true i = absurd (true≢false (sym (held_shows level v s under sec q mode is) ∙ inferior_hidden path hidden q i))
       held s q mode under true is false i = refl
       held s q mode under false is b i = refl
@@ -138,7 +138,7 @@ module _ (level : Level) (v : State) (sec : Secure v) where
       stays true false c e = refl
       stays false b c e = refl
 
-      held : (j : ℕ) (q : Path) (mode : Mode) → is_subject_under level v j ≡ true → (a : Bool) → holds v j q mode ≡ a → (b : Bool) → is_same q path ≡ b →
+      held : (j : ℕ) (q : Path) (mode : AccessMode) → is_subject_under level v j ≡ true → (a : Bool) → holds v j q mode ≡ a → (b : Bool) → is_same q path ≡ b →
           (a && not ((j == s) && is_same q path && has modes mode)) ≡ a
       held j q mode under true is true i = absurd (true≢false (sym (held_shows level v j under sec q mode is) ∙ ap (shows level v) (same_path q path i) ∙ hidden))
       held j q mode under true is false i = stays (j == s) (is_same q path) (has modes mode) i
@@ -153,7 +153,7 @@ module _ (level : Level) (v : State) (sec : Secure v) where
     other_subject j under same = true≢false (sym under ∙ ap (is_subject_under level v) same ∙ blind)
 
     -- it holds something more
-    pub alike_with_triple : (path : Path) (mode : Mode) → Alike level v (with_triple v s path mode)
+    pub alike_with_triple : (path : Path) (mode : AccessMode) → Alike level v (with_triple v s path mode)
     alike_with_triple path mode = record {
       process = λ j h. refl;
       holds_same = λ j q x h. by j q x h (eq_by_cmp triple_cmp (j, q, x) (s, path, mode)) refl ∙ sym (holds-with_triple v s path mode j q x);
@@ -162,7 +162,7 @@ module _ (level : Level) (v : State) (sec : Secure v) where
       contents = λ q. refl;
     }
       where
-        by : (j : ℕ) (q : Path) (x : Mode) → is_subject_under level v j ≡ true → (b : Bool) → eq_by_cmp triple_cmp (j, q, x) (s, path, mode) ≡ b → holds v j q x ≡ (b || holds v j q x)
+        by : (j : ℕ) (q : Path) (x : AccessMode) → is_subject_under level v j ≡ true → (b : Bool) → eq_by_cmp triple_cmp (j, q, x) (s, path, mode) ≡ b → holds v j q x ≡ (b || holds v j q x)
         by j q x h true is = absurd (other_subject j h (same_triple (j, q, x) (s, path, mode) is).0)
         by j q x h false is = refl
 
@@ -180,7 +180,7 @@ module _ (level : Level) (v : State) (sec : Secure v) where
         stays true = refl
         stays false = refl
 
-        held : (j : ℕ) (q : Path) (mode : Mode) → j ≢ s → (b : Bool) → (j == s) ≡ b → (holds v j q mode && not ((j == s) && is_same q path && has modes mode)) ≡ holds v j q mode
+        held : (j : ℕ) (q : Path) (mode : AccessMode) → j ≢ s → (b : Bool) → (j == s) ≡ b → (holds v j q mode && not ((j == s) && is_same q path && has modes mode)) ≡ holds v j q mode
         held j q mode apart true is = absurd (apart (grind (arith, nat_tests, is)))
         held j q mode apart false is = ap (λ b. holds v j q mode && not (b && is_same q path && has modes mode)) is ∙ stays (holds v j q mode)
 
@@ -189,7 +189,7 @@ module _ (level : Level) (v : State) (sec : Secure v) where
     above_high facts h = false_if _ (λ under. true≢false (sym (dominates-trans level (level_of v facts) (current_level v s) under h) ∙ not_current))
 
     -- so what it holds by write or append is not, by the *-property
-    high_by : (mode : Mode) → (mode ≡ Write) ⊎ (mode ≡ Append) → (path : Path) → holds v s path mode ≡ true → passes (is_under level v) (facts_at v path) ≡ false
+    high_by : (mode : AccessMode) → (mode ≡ Write) ⊎ (mode ≡ Append) → (path : Path) → holds v s path mode ≡ true → passes (is_under level v) (facts_at v path) ≡ false
     high_by mode one path held = by (facts_at v path) (sec.access s path mode held)
       where
         by : (a : Option Facts) → passes (λ facts. has (in_row facts.row s) mode && is_allowed v s facts mode) a ≡ true → passes (is_under level v) a ≡ false

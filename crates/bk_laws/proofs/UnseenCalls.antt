@@ -1,7 +1,7 @@
 -- No kernel call of a subject that is not under a level changes what lies under it, or sends a byte on a line under it.
 use Rattle.std.proofs.Common.{◌≡◌, ℕ, ◌<◌, ◌%◌, false, List, [], length, Option, Some, None, refl}
 use Rattle.bk_level.specs.Levels.{Level}
-use Rattle.bk_object.specs.Modes.{Mode, Read, Execute, Write, Append}
+use Rattle.bk_object.specs.Modes.{AccessMode, Read, Execute, Write, Append}
 use Rattle.bk_object.specs.Rows.{given}
 use Rattle.bk_process.specs.declared.process.Process.{Process}
 use Rattle.bk_state.specs.declared.rule.Rule.TheVariants.{GetRead, GetAppend, GetExecute, GetWrite, Release, Give, Rescind, Create, DeleteGroup}
@@ -11,7 +11,7 @@ use Rattle.bk_state.specs.declared.call.Service.TheVariants.{Window, Unwindow, D
 use Rattle.bk_state.specs.declared.call.Service.TheVariants.{SetFaultEntry, Stop}
 use Rattle.bk_state.specs.State.{State, find}
 use Rattle.bk_state.specs.Secure.{Secure}
-use Rattle.bk_state.specs.declared.cause.Cause.{Cause}
+use Rattle.bk_state.specs.declared.cause.CallCause.{CallCause}
 use Rattle.bk_state.specs.Request.{Request, register, request_in}
 use Rattle.bk_state.specs.Calls.{call_of, definition_of, call_refusal}
 use Rattle.bk_state.specs.KernelCall.{KernelCall}
@@ -46,7 +46,7 @@ module _ (level : Level) (v : State) (sec : Secure v) (s : ℕ) (real : s < leng
     byte : (at : At) → seen_items level v (byte_item at (call.sends v request)) ≡ []
 
   -- the subject holds something more, which its own view alone shows
-  got : (request : Request) (mode : Mode) → low level v ≡ low level (with_triple v s request.path mode)
+  got : (request : Request) (mode : AccessMode) → low level v ≡ low level (with_triple v s request.path mode)
   got request mode = low_from_alike level v _ _ _ (alike_with_triple level v sec s real blind request.path mode)
 
   get_read-unseen : (request : Request) → Unseen get_read request
@@ -170,7 +170,7 @@ module _ (level : Level) (v : State) (sec : Secure v) (s : ℕ) (real : s < leng
   unfolding outcome
   unseen_outcome call general none = (each_unseen call (request_in general) none).state
 
-  unseen_answered : (at : At) (p : Process) (call : Call) (cause : Option Cause) → call_refusal v s call p.registers.general ≡ cause → CallsUnseen level v at (answered_by v s p call cause)
+  unseen_answered : (at : At) (p : Process) (call : Call) (cause : Option CallCause) → call_refusal v s call p.registers.general ≡ cause → CallsUnseen level v at (answered_by v s p call cause)
   unseen_answered at p call None is = record {
     state = unseen_outcome call p.registers.general (not_refused v s call p.registers.general is);
     byte = (each_unseen call (request_in p.registers.general) (not_refused v s call p.registers.general is)).byte at;

@@ -16,9 +16,11 @@ use Rattle.bk_state.specs.Smallest.{only_process}
 use Rattle.bk_state.specs.State.{State, Object, Contents, Children, Messages}
 use Rattle.bk_system.specs.Event.{Event, Turn}
 
+-- the higher of the two levels
 abbrev pub higher : Level
 higher = record { class = 1; categories = [] }
 
+-- the facts of an object of that kind, level and quota, with an empty row
 abbrev pub facts_with : Kind → (level quota : ℕ) → Facts
 facts_with kind level quota = record { kind = kind; blocks = 0; level = level; quota = quota; row = empty_row }
 
@@ -26,6 +28,7 @@ facts_with kind level quota = record { kind = kind; blocks = 0; level = level; q
 abbrev pub one_waits : Contents
 one_waits = Messages ((1 ∷ 2 ∷ 3 ∷ 4 ∷ []) ∷ []) 0
 
+-- a root, a mailbox above it in which a message waits, and an upgraded directory with an empty mailbox
 abbrev pub example_objects : List (Path × Object)
 example_objects =
     ([], record { facts = facts_with Directory 0 16; contents = Children })
@@ -34,6 +37,7 @@ example_objects =
     ∷ (0 ∷ 6 ∷ [], record { facts = facts_with Mailbox 1 0; contents = Messages [] 0 })
     ∷ []
 
+-- two subjects, one at each level; the higher holds write on the empty mailbox
 abbrev pub example : State
 example = record {
   fixed = record {

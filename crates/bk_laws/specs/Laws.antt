@@ -4,6 +4,7 @@ use Rattle.bk_level.specs.Levels.{Level}
 use Rattle.bk_object.specs.Rows.{most_subjects}
 use Rattle.bk_state.specs.declared.image.Image.{Image}
 use Rattle.bk_report.specs.Lines.{line_records_of}
+use Rattle.bk_state.specs.Limits.{most_lines, most_turns}
 use Rattle.bk_state.specs.Low.{is_line_under, low}
 use Rattle.bk_state.specs.Secure.{Secure}
 use Rattle.bk_state.specs.Start.{state_of}
@@ -11,6 +12,7 @@ use Rattle.bk_state.specs.State.{State}
 use Rattle.bk_system.specs.declared.script.TypedAt.{TypedAt}
 use Rattle.bk_system.specs.Event.{Event, happens, all_happen}
 use Rattle.bk_system.specs.Kept.{keep}
+use Rattle.bk_system.specs.Limits.{most_slots, most_turns_of_run}
 use Rattle.bk_system.specs.Report.{report_of}
 use Rattle.bk_system.specs.Slot.{run_events}
 use Rattle.bk_laws.specs.Seen.{is_seen, seen_events, seen_items, seen_told}
@@ -36,6 +38,7 @@ pub record RunAlike (level : Level) (v w : State) (events others : List Event) :
   pub state : low level (all_happen v events).state ≡ low level (all_happen w others).state
   pub items : seen_told level v events ≡ seen_told level w others
 
+-- every event keeps a secure state secure
 abbrev pub LawSecure : Type 0
 LawSecure = (v : State) (event : Event) → Secure v → KeepsSecure v event
 
@@ -43,13 +46,16 @@ LawSecure = (v : State) (event : Event) → Secure v → KeepsSecure v event
 abbrev pub LawReached : Type 0
 LawReached = (v : State) (events : List Event) → Secure v → Secure (all_happen v events).state × ((all_happen v events).state.fixed ≡ v.fixed)
 
+-- what a level does not see changes nothing that lies under it, and tells it nothing
 abbrev pub LawUnseen : Type 0
 LawUnseen = (level : Level) (v : State) (event : Event) → Secure v → is_seen level v event ≡ false → HappensUnseen level v event
 
+-- what a level sees is decided by what lies under it
 abbrev pub LawSeen : Type 0
 LawSeen = (level : Level) (v w : State) (event : Event) → Secure v → Secure w → low level v ≡ low level w →
     is_seen level v event ≡ true → HappensAlike level v w event
 
+-- so two runs that begin alike under a level, and of which it sees the same events, end alike under it and tell it the same
 abbrev pub LawRuns : Type 0
 LawRuns = (level : Level) (v w : State) (events others : List Event) → Secure v → Secure w → low level v ≡ low level w →
     seen_events level v events ≡ seen_events level w others → RunAlike level v w events others
@@ -64,10 +70,10 @@ LawKept = (level : Level) (image : Image) (records : List TypedAt) (n : ℕ) →
 -- the limits of an image and of the slots of a script for it
 pub record IsLimited (image : Image) (n : ℕ) : Type 0 where
   pub subjects : length image.subjects ≤ most_subjects
-  pub lines : image.lines ≤ 16
-  pub turns : image.turns ≤ 4096
-  pub slots : n ≤ 65535
-  pub within : n * image.turns ≤ 4194304
+  pub lines : image.lines ≤ most_lines
+  pub turns : image.turns ≤ most_turns
+  pub slots : n ≤ most_slots
+  pub within : n * image.turns ≤ most_turns_of_run
 
 -- so do the line records of its report: those of lines under a level are those of the report of the run without the bytes
 -- typed on other lines

@@ -1,5 +1,6 @@
 -- One mask has all bits of another exactly where the categories are so.
-use Rattle.std.proofs.Common.{◌≡◌, ℕ, ◌<◌, ◌≤◌, ◌^◌, Bool, true, false, cond, ◌&&◌, ◌||◌, List, [], ◌∷◌, filter, refl, sym, ap, ◌∙◌, subst, ◌==◌, min, nat_le, arith, ◌⊎◌, inl, inr}
+use Rattle.std.proofs.Common.{◌≡◌, ℕ, ◌<◌, ◌≤◌, ◌^◌, Bool, true, false, cond, ◌&&◌, ◌||◌, List, [], ◌∷◌, filter, refl, sym, ap, ◌∙◌, subst, ◌==◌, min}
+use Rattle.std.proofs.Common.{nat_le, arith, ◌⊎◌, inl, inr}
 use Rattle.std.specs.Prelude.{bit_and}
 use Rattle.std.specs.Int.{bit_at}
 use Rattle.std.specs.List.{list_all}
@@ -7,7 +8,8 @@ use Rattle.std.specs.Cmp.{both_ways}
 use Rattle.std.proofs.lemmas.Bool.Decides.{nat_tests}
 use Rattle.std.proofs.lemmas.Nat.{and_le_l, and_comm}
 use Rattle.std.proofs.lemmas.Nat.Bits.{bit_at_and, same_from_bits_below, bit_at-lt}
-use Rattle.bk_level.proofs.LevelOrder.{contains, all_from, all_at, and_first, and_second, and_both, dominates-from, Dominates-from, both-from_same, is_same_level-itself}
+use Rattle.bk_level.proofs.LevelOrder.{contains, all_from, all_at, and_first, and_second, and_both, dominates-from, Dominates-from, both-from_same}
+use Rattle.bk_level.proofs.LevelOrder.{is_same_level-itself}
 use Rattle.bk_level.specs.Levels.{Level, Dominates, dominates, is_same_level}
 use Rattle.bk_level.specs.Masks.{categories_of, numbers_from}
 

@@ -21,9 +21,11 @@ abbrev pub mask_of : List ℕ → ℕ
 mask_of [] = 0
 mask_of (place ∷ places) = 2 ^ place + mask_of places
 
+-- the level that the fields stand for
 abbrev pub level_of : Inside → model.Level
 level_of fields = record { class = fields.class; categories = categories_of fields.cats }
 
+-- the fields that stand for a level
 abbrev pub fields_of : model.Level → Inside
 fields_of level = record { class = level.class; cats = mask_of level.categories }
 

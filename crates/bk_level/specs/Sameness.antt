@@ -15,6 +15,7 @@ and_second a b both = grind (arith, both)
 pub and_both : (a b : Bool) → a ≡ true → b ≡ true → (a && b) ≡ true
 and_both a b first second = grind (arith, first, second)
 
+-- the list has the category
 abbrev pub contains : ℕ → List ℕ → Bool
 contains c xs = list_any (λ d. c == d) xs
 

@@ -10,6 +10,7 @@ use Rattle.bk_level.specs.declared.table.LevelTable.TheInside.{Inside}
 abbrev pub levels_of : Inside → List Level
 levels_of table = take table.len table.levels
 
+-- the table whose places begin with these levels
 abbrev pub table_of : List Level → Inside
 table_of levels = record { levels = levels ++ replicate (64 - length levels) lowest; len = length levels }
 

@@ -47,6 +47,14 @@ impl Eq for Level {
 }
 
 impl Level {
+    /// The lowest level: class 0 and no categories.
+    #[tactic(auto, unfolding(crate::specs::Masks::categories_of))]
+    pub fn lowest() -> Level
+        ensures { result ≡ model.lowest }
+    {
+        Level { class: 0, cats: 0 }
+    }
+
     /// Whether this level's class is at least the other's, and it has all of the other's categories (MTR-2997).
     pub fn dominates(self, other: Level) -> bool
         ensures value { result ≡ model.dominates self other }

@@ -2,8 +2,8 @@
 //!
 //! Model: `specs/Levels.antt` (`Level`, `Dominates`, `dominates`, `is_same_level`, `level_at`); `specs/Sameness.antt` (to be the
 //! same level is an equivalence), `specs/Masks.antt` and `specs/Tables.antt` (levels and tables as the fields of the code).
-//! Calls: `Level::dominates`, `==`; `LevelTable::new`, `push`, `get`, `len`. (`law_order`, `law_antisymmetric`, `law_example` are
-//! empty functions, for their contracts.)
+//! Calls: `Level::lowest`, `dominates`, `==`; `LevelTable::new`, `push`, `get`, `at`, `has`, `len`. (`law_order`,
+//! `law_antisymmetric`, `law_example` are empty functions, for their contracts.)
 //! Proved: `dominates` is the partial order of classes and sets of categories, and two levels are the same exactly where each
 //! dominates the other; a table has at most 64 levels, no two the same.
 //! Tested: nothing that no clause says.

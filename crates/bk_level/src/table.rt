@@ -2,7 +2,7 @@
 
 ghost use Rattle.std.specs.Prelude.{◌≡◌, ◌≤◌, ◌↔◌, [], ◌∷◌, ◌++◌, length, IsTrue, OnOk, OnErr, slice_get};
 ghost use Rattle.std.specs.List.{IsDistinct};
-ghost use Rattle.bk_level.specs.Levels.{has_level, is_same_level, most_levels};
+ghost use Rattle.bk_level.specs.Levels.{has_level, is_same_level, level_at, most_levels};
 
 use crate::Level;
 use std::marker::Model;
@@ -87,6 +87,13 @@ impl LevelTable {
         }
     }
 
+    /// The level with that number; the lowest from the length on.
+    pub fn at(&self, n: u8) -> Level
+        ensures { result ≡ level_at self.now n }
+    {
+        self.get(n).unwrap_or(Level::lowest())
+    }
+
     /// How many levels there are.
     pub fn len(&self) -> u8
         ensures value { result ≡ length self.now }
@@ -96,8 +103,8 @@ impl LevelTable {
         self.len
     }
 
-    // Whether the level stands in the table.
-    fn has(&self, level: Level) -> bool
+    /// Whether the level stands in the table.
+    pub fn has(&self, level: Level) -> bool
         ensures { result ≡ has_level self.now level }
     {
         self.levels[..self.len as usize].contains(&level)

@@ -23,7 +23,7 @@ use Rattle.bk_state.specs.Contents.{new_contents}
 use Rattle.bk_state.specs.declared.image.ObjectRec.{ObjectRec}
 use Rattle.bk_state.specs.Contents.{with_word}
 use Rattle.bk_image.specs.Objects.{Objects, room}
-use Rattle.bk_store.specs.Stored.{Entry, Stored, fresh, object_of, objects_of, written, written_by, HasOffset}
+use Rattle.bk_store.specs.Stored.{Entry, Stored, fresh, object_of, objects_of, word_written, word_written_by, HasOffset}
 use Rattle.bk_store.proofs.Stands.{get-objects_of}
 
 -- the object with its first n words
@@ -117,16 +117,16 @@ contents_next (Line k) blocks level quota row words n w lt le is = refl
 
 -- the next word is written
 pub written-next : (m : Objects) (o : ObjectRec) (n w : ℕ) → n < length o.words → length o.words ≤ room o.facts → w ≡ get_or o.words n w →
-    written o.path n w (map.insert m o.path (partial o n)) ≡ map.insert m o.path (partial o (n + 1))
+    word_written o.path n w (map.insert m o.path (partial o n)) ≡ map.insert m o.path (partial o (n + 1))
 written-next m o n w lt le is =
-    ap (written_by (map.insert m o.path (partial o n)) o.path n w) (get-inserted m o.path (partial o n))
+    ap (word_written_by (map.insert m o.path (partial o n)) o.path n w) (get-inserted m o.path (partial o n))
     ∙ insert-again m o.path (partial o n) (record { facts = o.facts; contents = with_word n w (contents_from o.facts.kind o.facts.blocks (take n o.words)) })
     ∙ (λ i. map.insert m o.path (record { facts = o.facts; contents = contents_next o.facts.kind o.facts.blocks o.facts.level o.facts.quota o.facts.row o.words n w lt le is i }))
 
 -- the same, where the objects and the place are known by equations
 pub written_at : (m now : Objects) (o : ObjectRec) (n i w : ℕ) → now ≡ map.insert m o.path (partial o i) → n ≡ i → i < length o.words → length o.words ≤ room o.facts → w ≡ get_or o.words i 0 →
-    written o.path n w now ≡ map.insert m o.path (partial o (i + 1))
-written_at m now o n i w are same lt le is = (λ k. written o.path (same k) w (are k)) ∙ written-next m o i w lt le (is ∙ get_or_default o.words i 0 w lt)
+    word_written o.path n w now ≡ map.insert m o.path (partial o (i + 1))
+written_at m now o n i w are same lt le is = (λ k. word_written o.path (same k) w (are k)) ∙ written-next m o i w lt le (is ∙ get_or_default o.words i 0 w lt)
 
 -- the word lies inside the segment
 pub offset_inside : (v : Stored) (words : List ℕ) (path : Path) (facts : Facts) (n offset : ℕ) → map.get (objects_of v words) path ≡ Some (fresh facts) → n < room facts → offset ≡ 2 * n → HasOffset v path offset

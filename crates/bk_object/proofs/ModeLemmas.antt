@@ -7,7 +7,7 @@ use Rattle.std.proofs.Common.{w8}
 use Rattle.std.proofs.lemmas.Bool.Decides.{nat_tests}
 use Rattle.std.proofs.lemmas.Nat.Bits.{bit_at_and, bit_at_or, bit_at_not, bit_at-lt, bit_at_lowest}
 use Rattle.bk_object.specs.declared.modes.Modes.{Modes}
-use Rattle.bk_object.specs.Modes.{Mode, Read, Execute, Write, Append, has, modes_where, union, without, is_within}
+use Rattle.bk_object.specs.Modes.{AccessMode, Read, Execute, Write, Append, has, modes_where, union, without, is_within}
 
 -- the number of a set, by whether it has each mode
 abbrev number_of : (read execute write append : Bool) → ℕ
@@ -29,16 +29,16 @@ fourth_bit : (r e w a : Bool) → (number_of r e w a / 8 % 2 == 1) ≡ a
 fourth_bit r e w true = grind (arith, nat_tests)
 fourth_bit r e w false = grind (arith, nat_tests)
 
-pub has-modes_where : (test : Mode → Bool) (mode : Mode) → has (modes_where test) mode ≡ test mode
+pub has-modes_where : (test : AccessMode → Bool) (mode : AccessMode) → has (modes_where test) mode ≡ test mode
 has-modes_where test Read = first_bit (test Read) (test Execute) (test Write) (test Append)
 has-modes_where test Execute = second_bit (test Read) (test Execute) (test Write) (test Append)
 has-modes_where test Write = third_bit (test Read) (test Execute) (test Write) (test Append)
 has-modes_where test Append = fourth_bit (test Read) (test Execute) (test Write) (test Append)
 
-pub has-union : (a b : Modes) (mode : Mode) → has (union a b) mode ≡ (has a mode || has b mode)
+pub has-union : (a b : Modes) (mode : AccessMode) → has (union a b) mode ≡ (has a mode || has b mode)
 has-union a b mode = has-modes_where (λ m. has a m || has b m) mode
 
-pub has-without : (a b : Modes) (mode : Mode) → has (without a b) mode ≡ (has a mode && not (has b mode))
+pub has-without : (a b : Modes) (mode : AccessMode) → has (without a b) mode ≡ (has a mode && not (has b mode))
 has-without a b mode = has-modes_where (λ m. has a m && not (has b m)) mode
 
 same_bit : (x y : ℕ) → x < 2 → y < 2 → (x == 1) ≡ (y == 1) → x ≡ y
@@ -49,7 +49,7 @@ same_bit x y small_x small_y e = by (y == 1) refl
     by false is = let none = e ∙ is in grind (arith, nat_tests, none, is)
 
 -- sets of the four modes with the same modes are equal
-pub same_modes : (a b : Modes) → a.0 < 16 → b.0 < 16 → ((mode : Mode) → has a mode ≡ has b mode) → a ≡ b
+pub same_modes : (a b : Modes) → a.0 < 16 → b.0 < 16 → ((mode : AccessMode) → has a mode ≡ has b mode) → a ≡ b
 same_modes a b small_a small_b same = λ i. record { 0 = number i }
   where
     number : a.0 ≡ b.0

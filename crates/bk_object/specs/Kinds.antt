@@ -3,10 +3,10 @@ use Rattle.std.specs.Prelude.{ℕ, Bool, true, false}
 use Rattle.bk_object.specs.declared.kind.Kind.{Kind}
 use Rattle.bk_object.specs.declared.kind.Kind.TheVariants.{Directory, Segment, Mailbox, Line}
 use Rattle.bk_object.specs.declared.modes.Modes.{Modes}
-use Rattle.bk_object.specs.Modes.{Mode, Read, Execute, Write, Append, modes_where}
+use Rattle.bk_object.specs.Modes.{AccessMode, Read, Execute, Write, Append, modes_where}
 
 -- an object of the kind can be held by the mode
-abbrev pub is_mode_of : Kind → Mode → Bool
+abbrev pub is_mode_of : Kind → AccessMode → Bool
 is_mode_of Directory Read = true
 is_mode_of Directory Execute = false
 is_mode_of Directory Write = true
@@ -25,18 +25,21 @@ is_mode_of (Line n) Append = true
 abbrev pub kind_modes : Kind → Modes
 kind_modes kind = modes_where (is_mode_of kind)
 
+-- a directory
 abbrev pub is_directory : Kind → Bool
 is_directory Directory = true
 is_directory Segment = false
 is_directory Mailbox = false
 is_directory (Line n) = false
 
+-- a segment
 abbrev pub is_segment : Kind → Bool
 is_segment Directory = false
 is_segment Segment = true
 is_segment Mailbox = false
 is_segment (Line n) = false
 
+-- a mailbox
 abbrev pub is_mailbox : Kind → Bool
 is_mailbox Directory = false
 is_mailbox Segment = false
@@ -56,3 +59,10 @@ kind_number Directory = 0
 kind_number Segment = 1
 kind_number Mailbox = 2
 kind_number (Line n) = 3
+
+-- what a kind has a number for: a line its own, all else its blocks
+abbrev pub blocks_or_line : Kind → (blocks : ℕ) → ℕ
+blocks_or_line Directory blocks = blocks
+blocks_or_line Segment blocks = blocks
+blocks_or_line Mailbox blocks = blocks
+blocks_or_line (Line n) blocks = n

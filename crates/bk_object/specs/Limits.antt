@@ -5,6 +5,7 @@ use Rattle.std.specs.Prelude.{ℕ}
 abbrev pub bytes_of_block : ℕ
 bytes_of_block = 64
 
+-- words of a block
 abbrev pub words_of_block : ℕ
 words_of_block = 32
 
@@ -20,9 +21,11 @@ largest_quota = 3904
 abbrev pub most_messages : ℕ
 most_messages = 16
 
+-- words of a message
 abbrev pub words_of_message : ℕ
 words_of_message = 4
 
+-- so many lost messages are counted at most
 abbrev pub most_lost : ℕ
 most_lost = 65535
 

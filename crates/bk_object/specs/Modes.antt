@@ -2,28 +2,29 @@
 use Rattle.std.specs.Prelude.{ℕ, ◌+◌, ◌/◌, ◌%◌, Bool, ◌&&◌, ◌||◌, not, ◌==◌, if◌then◌else◌}
 use Rattle.bk_object.specs.declared.modes.Modes.{Modes}
 
-pub data Mode : Type 0 where
-  Read : Mode
-  Execute : Mode
-  Write : Mode
-  Append : Mode
+-- the modes of access to an object
+pub data AccessMode : Type 0 where
+  Read : AccessMode
+  Execute : AccessMode
+  Write : AccessMode
+  Append : AccessMode
 
 -- the mode's bit
-abbrev pub mode_number : Mode → ℕ
+abbrev pub mode_number : AccessMode → ℕ
 mode_number Read = 1
 mode_number Execute = 2
 mode_number Write = 4
 mode_number Append = 8
 
 -- the set has the mode
-abbrev pub has : Modes → Mode → Bool
+abbrev pub has : Modes → AccessMode → Bool
 has modes Read = modes.0 % 2 == 1
 has modes Execute = modes.0 / 2 % 2 == 1
 has modes Write = modes.0 / 4 % 2 == 1
 has modes Append = modes.0 / 8 % 2 == 1
 
 -- the set of those modes of which the test holds
-abbrev pub modes_where : (Mode → Bool) → Modes
+abbrev pub modes_where : (AccessMode → Bool) → Modes
 modes_where test = record {
   0 = (if test Read then 1 else 0) + (if test Execute then 2 else 0) + (if test Write then 4 else 0) + (if test Append then 8 else 0);
 }
@@ -32,7 +33,8 @@ modes_where test = record {
 abbrev pub no_modes : Modes
 no_modes = record { 0 = 0 }
 
-abbrev pub only : Mode → Modes
+-- the set of one mode
+abbrev pub only : AccessMode → Modes
 only mode = record { 0 = mode_number mode }
 
 -- the modes of either
@@ -47,5 +49,5 @@ without a b = modes_where (λ mode. has a mode && not (has b mode))
 abbrev pub is_within : Modes → Modes → Bool
 is_within a b = fits Read && fits Execute && fits Write && fits Append
   where
-    fits : Mode → Bool
+    fits : AccessMode → Bool
     fits mode = not (has a mode) || has b mode

@@ -9,17 +9,21 @@ abbrev pub split_pairs : List ℕ → List Modes
 split_pairs [] = []
 split_pairs (pair ∷ pairs) = record { 0 = pair % 16 } ∷ record { 0 = pair / 16 } ∷ split_pairs pairs
 
+-- two sets in one byte, the lower number in its low half
 abbrev pub joined_pairs : List Modes → List ℕ
 joined_pairs [] = []
 joined_pairs (low ∷ []) = low.0 ∷ []
 joined_pairs (low ∷ high ∷ sets) = (low.0 + 16 * high.0) ∷ joined_pairs sets
 
+-- the sets that the bytes stand for
 abbrev pub sets_of : Inside → List Modes
 sets_of row = split_pairs row.pairs
 
+-- the bytes that stand for sets
 abbrev pub pairs_of : List Modes → Inside
 pairs_of sets = record { pairs = joined_pairs sets }
 
+-- there is half a byte for each subject
 pub record HasPairs (row : Inside) : Type 0 where
   pub whole : length row.pairs ≡ 16
 

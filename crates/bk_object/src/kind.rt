@@ -1,7 +1,7 @@
 // Kinds of object.
 
-ghost use Rattle.std.specs.Prelude.{◌≡◌};
-ghost use Rattle.bk_object.specs.Kinds.{kind_modes};
+ghost use Rattle.std.specs.Prelude.{◌≡◌, ◌<◌};
+ghost use Rattle.bk_object.specs.Kinds.{blocks_or_line, kind_modes, kind_number};
 
 use crate::Modes;
 use bitflags::Flags;
@@ -28,6 +28,29 @@ impl Kind {
             Kind::Directory => Modes::from_bits_retain(5),
             Kind::Segment => Modes::from_bits_retain(15),
             Kind::Mailbox | Kind::Line(_) => Modes::from_bits_retain(12),
+        }
+    }
+
+    /// The kind's number: 0 directory, 1 segment, 2 mailbox, 3 line.
+    pub fn number(self) -> u8
+        ensures value { result ≡ kind_number self }
+        ensures small { result < 4 }
+    {
+        match self {
+            Kind::Directory => 0,
+            Kind::Segment => 1,
+            Kind::Mailbox => 2,
+            Kind::Line(_) => 3,
+        }
+    }
+
+    /// A line's own number; of all else these blocks.
+    pub fn blocks_or_line(self, blocks: u8) -> u8
+        ensures { result ≡ blocks_or_line self blocks }
+    {
+        match self {
+            Kind::Directory | Kind::Segment | Kind::Mailbox => blocks,
+            Kind::Line(n) => n,
         }
     }
 }

@@ -71,9 +71,9 @@ pub(crate) fn difference_of(a: Modes, b: Modes) -> Modes
 
 /// What a set made by a test, a union, a difference and the empty set have; two sets of these four modes with the same modes are equal.
 pub fn law_modes()
-    ensures by_test { (test : model.Mode → Bool) (mode : model.Mode) → model.has (model.modes_where test) mode ≡ test mode }
-    ensures union { (a b : Modes) (mode : model.Mode) → model.has (model.union a b) mode ≡ (model.has a mode || model.has b mode) }
-    ensures without { (a b : Modes) (mode : model.Mode) → model.has (model.without a b) mode ≡ (model.has a mode && not (model.has b mode)) }
-    ensures none { (mode : model.Mode) → model.has model.no_modes mode ≡ false }
-    ensures same { (a b : Modes) → a.0 < 16 → b.0 < 16 → ((mode : model.Mode) → model.has a mode ≡ model.has b mode) → a ≡ b }
+    ensures by_test { (test : model.AccessMode → Bool) (mode : model.AccessMode) → model.has (model.modes_where test) mode ≡ test mode }
+    ensures union { (a b : Modes) (mode : model.AccessMode) → model.has (model.union a b) mode ≡ (model.has a mode || model.has b mode) }
+    ensures without { (a b : Modes) (mode : model.AccessMode) → model.has (model.without a b) mode ≡ (model.has a mode && not (model.has b mode)) }
+    ensures none { (mode : model.AccessMode) → model.has model.no_modes mode ≡ false }
+    ensures same { (a b : Modes) → a.0 < 16 → b.0 < 16 → ((mode : model.AccessMode) → model.has a mode ≡ model.has b mode) → a ≡ b }
 {}

@@ -1,7 +1,7 @@
 //! Paths, by which objects are named, and the two words that a path is packed in.
 //!
 //! Model: `specs/Paths.antt` (`Path`, `path_cmp`, `parent`, `is_inferior`, `unpack`, `pack`), `specs/Orders.antt` (the order of paths is total), `specs/Packed.antt` and `specs/Spelt.antt` (a path as the words and entries of the code).
-//! Calls: `Path::root`, `child`, `parent`, `depth`, `entry`, `is_inferior`, `pack`, `unpack`; `law_paths`, `law_packing`, `law_example`.
+//! Calls: `Path::root`, `child`, `parent`, `above`, `is_root`, `depth`, `entry`, `is_inferior`, `pack`, `unpack`; `law_paths`, `law_packing`, `law_example`.
 //! Proved: each call is its definition on lists; packing and unpacking are inverse, and nothing else packs; a path is inferior to another exactly where the other's entries are its front; examples of packing, order and inferiors.
 //! Tested: that the calls work together on octal words.
 //! Neither: nothing.

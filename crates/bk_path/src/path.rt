@@ -119,6 +119,20 @@ impl Path {
         Some(Path::from_entries(entries, depth - 1))
     }
 
+    /// The path without its last entry; root stays root.
+    pub fn above(self) -> Path
+        ensures { result ≡ model.parent self }
+    {
+        self.parent().unwrap_or(self)
+    }
+
+    /// Whether the path is root.
+    pub fn is_root(self) -> bool
+        ensures { result ≡ model.is_root self }
+    {
+        self.depth() == 0
+    }
+
     /// How many entries the path has.
     pub fn depth(self) -> u8
         ensures value { result ≡ length self }

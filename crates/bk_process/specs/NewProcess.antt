@@ -4,14 +4,15 @@ use Rattle.bk_space.specs.declared.registers.Regs.{Regs}
 use Rattle.bk_process.specs.declared.process.Process.{Process}
 use Rattle.bk_process.specs.declared.status.Status9.TheVariants.{Running}
 
--- how many windows a process has, how many faults have an entry, and how many general registers there are beside stack
--- pointers and program counter
+-- so many windows has a process
 abbrev pub windows_of_process : ℕ
 windows_of_process = 32
 
+-- so many faults have an entry
 abbrev pub entries_of_process : ℕ
 entries_of_process = 8
 
+-- so many general registers are there beside stack pointers and program counter
 abbrev pub general_registers : ℕ
 general_registers = 6
 

@@ -37,9 +37,11 @@ module _ {X : Type 0} (facts_of : X → Facts) where
   governing_in m [] = []
   governing_in m (entry ∷ path) = if is_upgraded_in m (entry ∷ path) then entry ∷ path else governing_in m path
 
+  -- the number of the level of what is at the path, and 0 where nothing is
   abbrev pub level_in : map.FinMap path_cmp X → Path → ℕ
   level_in m path = unwrap_or (option_map (λ facts. facts.level) (facts_in m path)) 0
 
+  -- the quota of what is at the path, and 0 where nothing is
   abbrev pub quota_in : map.FinMap path_cmp X → Path → ℕ
   quota_in m path = unwrap_or (option_map (λ facts. facts.quota) (facts_in m path)) 0
 

@@ -5,9 +5,6 @@ ghost use Rattle.bk_quota.specs.Charges as model;
 
 use bk_object::{Facts, Kind};
 
-/// The largest limit that a cell can have: what is left of core beside the kernel's blocks, of 3,968 in all.
-pub const LARGEST_QUOTA: u16 = 3904;
-
 /// The charge of an object whose parent has that level number: 1 for a directory at its parent's level and its whole
 /// quota for an upgraded one, its blocks for a segment, 2 for a mailbox, 1 for a line.
 pub fn charge_of(facts: &Facts, parent_level: u8) -> u16

@@ -15,5 +15,5 @@ mod laws;
 
 pub use by_path::{FactsByPath, governing};
 pub use cell::Cell;
-pub use charges::{LARGEST_QUOTA, charge_of};
+pub use charges::charge_of;
 pub use laws::{law_example, law_governing};

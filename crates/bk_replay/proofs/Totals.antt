@@ -3,6 +3,7 @@ use Rattle.std.proofs.Common.{◌≡◌, ℕ, zero, suc, ◌+◌, ◌-◌, ◌*�
 use Rattle.bk_state.specs.State.{State}
 use Rattle.bk_state.specs.declared.image.Image.{Image}
 use Rattle.bk_state.specs.Start.{state_of}
+use Rattle.bk_system.specs.Limits.{most_slots, most_turns_of_run}
 use Rattle.bk_system.specs.declared.script.TypedAt.{TypedAt}
 use Rattle.bk_system.specs.Loops.{slots_of}
 use Rattle.bk_system.specs.Slot.{slot_of, records_for, run_of}
@@ -50,7 +51,7 @@ unfolding after_slot
 next_calls p records calls more is same few = (λ i. raised 32 (is i) (same i)) ∙ raised_exact calls more (2 ^ 32 - 1) (omega arith)
 
 -- each slot of a run adds its own
-pub exact : (v : State) (records : List TypedAt) (n : ℕ) → n ≤ 65535 → n * v.fixed.turns ≤ 4194304 → Exact v records n (after_slots v records n)
+pub exact : (v : State) (records : List TypedAt) (n : ℕ) → n ≤ most_slots → n * v.fixed.turns ≤ most_turns_of_run → Exact v records n (after_slots v records n)
 exact v records zero few within = record { state = refl; slots = refl; turns = omega arith; references = refl; calls = refl }
 exact v records (suc n) few within =
     let p = after_slots v records n in
@@ -81,7 +82,7 @@ pub report_is : (image : Image) (records : List TypedAt) (n : ℕ) → lines_of 
 unfolding report_of
 report_is image records n = ap (λ (s : Step). lines_of s.items ++ end_text (summary_of image records n)) (sym (run_of-slots image records n))
 
-pub summary_exact : (image : Image) (records : List TypedAt) (n : ℕ) (p : Progress) → p ≡ after_slots (state_of image) records n → n ≤ 65535 → n * image.turns ≤ 4194304 →
+pub summary_exact : (image : Image) (records : List TypedAt) (n : ℕ) (p : Progress) → p ≡ after_slots (state_of image) records n → n ≤ most_slots → n * image.turns ≤ most_turns_of_run →
     summary_in p ≡ summary_of image records n
 summary_exact image records n p is few within =
     let all : slots_of (state_of image) records n ≡ run_of image records n = sym (run_of-slots image records n) in

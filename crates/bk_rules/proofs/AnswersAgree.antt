@@ -15,18 +15,18 @@ use Rattle.bk_state.specs.Request.{Request}
 use Rattle.bk_state.specs.KernelCall as model
 use Rattle.bk_state.specs.KernelCall.{KernelCall}
 use Rattle.bk_state.specs.Calls.{rule_call, rule_checks, refusal}
-use Rattle.bk_state.specs.declared.cause.Cause.{Cause}
-use Rattle.bk_state.specs.declared.cause.Cause.TheVariants.{NotInRow, AboveGreatest, WrongCurrent, NoParentWrite, IsRoot, NotNamed, WrongKind, NoObject}
+use Rattle.bk_state.specs.declared.cause.CallCause.{CallCause}
+use Rattle.bk_state.specs.declared.cause.CallCause.TheVariants.{NotInRow, AboveGreatest, WrongCurrent, NoParentWrite, IsRoot, NotNamed, WrongKind, NoObject}
 use Rattle.bk_state.specs.declared.Rule.{Rule}
 use Rattle.bk_state.specs.declared.Rule.TheVariants.{GetRead, GetAppend, GetExecute, GetWrite, Release, Give, Rescind, Create, DeleteGroup}
 use Rattle.bk_rules.specs.Decisions.{asking_for, fails, refusal_by, facts_of}
 
 -- each check fails as the other's, as long as none before it failed
-abbrev Agree : (f g : Cause → Bool) → List Cause → Type 0
+abbrev Agree : (f g : CallCause → Bool) → List CallCause → Type 0
 Agree f g [] = Unit {0}
 Agree f g (c ∷ cs) = (f c ≡ g c) × (g c ≡ false → Agree f g cs)
 
-first-agree : (f g : Cause → Bool) (cs : List Cause) → Agree f g cs → first f cs ≡ first g cs
+first-agree : (f g : CallCause → Bool) (cs : List CallCause) → Agree f g cs → first f cs ≡ first g cs
 first-agree f g [] same = refl
 first-agree f g (c ∷ cs) same = by (g c) refl (λ e. first-agree f g cs (same.1 e))
   where
@@ -44,10 +44,10 @@ tested of other test None there = cc
 tested of other test (Some facts) there = refl
 
 module _ (v : State) (s : ℕ) (call : KernelCall) (request : Request) (same : call.modes (asking_for request.modes) ≡ call.modes request) where
-  abbrev by_facts : Cause → Bool
+  abbrev by_facts : CallCause → Bool
   by_facts = fails (facts_of v s request) call
 
-  abbrev by_state : Cause → Bool
+  abbrev by_state : CallCause → Bool
   by_state = model.fails v s call request
 
   no_object : by_facts NoObject ≡ by_state NoObject

@@ -8,8 +8,8 @@ use Rattle.bk_object.specs.Rows.{in_row}
 use Rattle.bk_object.specs.declared.Facts.{Facts}
 use Rattle.bk_object.specs.declared.Kind.TheVariants.{Directory}
 use Rattle.bk_object.specs.declared.Modes.{Modes}
-use Rattle.bk_state.specs.declared.cause.Cause.{Cause}
-use Rattle.bk_state.specs.declared.cause.Cause.TheVariants as causes
+use Rattle.bk_state.specs.declared.cause.CallCause.{CallCause}
+use Rattle.bk_state.specs.declared.cause.CallCause.TheVariants as causes
 use Rattle.bk_state.specs.declared.Rule.{Rule}
 use Rattle.bk_state.specs.State.{State, facts_at, holds, current_level, greatest_level, level_of}
 use Rattle.bk_state.specs.Allowed.{is_simple, is_star, by_mode}
@@ -31,7 +31,7 @@ abbrev pub asking_for : Modes → Request
 asking_for modes = record { path = []; modes = modes; subject = 0; kind = Directory; blocks = 0; level = 0; quota = 0; general = [] }
 
 -- the check of that cause fails, for the call that a rule is
-abbrev pub fails : RuleFacts → KernelCall → Cause → Bool
+abbrev pub fails : RuleFacts → KernelCall → CallCause → Bool
 fails facts call causes.NotNamed = not facts.named
 fails facts call causes.NoObject = not facts.there
 fails facts call causes.WrongKind = not (call.is_for facts.kind && is_within (call.modes (asking_for facts.modes)) (kind_modes facts.kind))
@@ -52,15 +52,15 @@ fails facts call causes.NoPath = false
 fails facts call causes.BadArgument = false
 
 -- the first of these checks of the rule that fails
-abbrev pub first_of : List Cause → RuleFacts → Rule → Option Cause
+abbrev pub first_of : List CallCause → RuleFacts → Rule → Option CallCause
 first_of listed facts rule = first (fails facts (rule_call rule)) listed
 
 -- the first of the rule's checks that fails
-abbrev pub refusal_by : RuleFacts → Rule → Option Cause
+abbrev pub refusal_by : RuleFacts → Rule → Option CallCause
 refusal_by facts rule = first_of (rule_checks rule) facts rule
 
 -- the decision for a cause: no, or `?`
-abbrev pub answer_for : Option Cause → Decision
+abbrev pub answer_for : Option CallCause → Decision
 answer_for None = Yes
 answer_for (Some cause) = if is_no cause then No (cause_number cause) else Unknown (cause_number cause)
 
@@ -68,6 +68,7 @@ answer_for (Some cause) = if is_no cause then No (cause_number cause) else Unkno
 abbrev pub answer : RuleFacts → Rule → Decision
 answer facts rule = answer_for (refusal_by facts rule)
 
+-- the level of an object, and the lowest where there is none
 abbrev pub level_or_lowest : State → Option Facts → Level
 level_or_lowest v facts = unwrap_or (option_map (level_of v) facts) lowest
 

@@ -1,19 +1,10 @@
 -- Facts of which each answer was worked by hand: a named segment that grants the caller r, w and a, and levels that differ.
-use Rattle.std.specs.Prelude.{true, false, [], ◌∷◌}
+use Rattle.std.specs.Prelude.{true, false}
 use Rattle.bk_level.specs.Levels.{Level}
 use Rattle.bk_object.specs.Modes.{no_modes}
 use Rattle.bk_object.specs.declared.Kind.TheVariants.{Segment}
+use Rattle.bk_state.specs.Example.{low}
 use Rattle.bk_rules.specs.declared.facts.RuleFacts.{RuleFacts}
-
--- three levels: the second dominates the first, and the third, which has a category, both
-abbrev pub low : Level
-low = record { class = 0; categories = [] }
-
-abbrev pub middle : Level
-middle = record { class = 1; categories = [] }
-
-abbrev pub marked : Level
-marked = record { class = 1; categories = 0 ∷ [] }
 
 -- an object of a level, for a caller whose greatest and current levels are these
 abbrev pub seen_from : (greatest current object : Level) → RuleFacts

@@ -1,18 +1,19 @@
 // The decision.
 
 ghost use Rattle.std.specs.Prelude.{◌≡◌, [], ◌∷◌, ℕ, IsTrue};
-ghost use Rattle.bk_state.specs.declared.cause.Cause.TheVariants as causes;
+ghost use Rattle.bk_state.specs.declared.cause.CallCause.TheVariants as causes;
 ghost use Rattle.bk_state.specs.Allowed.{by_mode, is_star};
 ghost use Rattle.bk_state.specs.Calls.{refusal as refusal_in_state, rule_call};
 ghost use Rattle.bk_state.specs.Request.{Request};
 ghost use Rattle.bk_state.specs.State as model;
 ghost use Rattle.bk_rules.specs.Decisions as decisions;
-ghost use Rattle.bk_rules.specs.Example.{low, marked, middle, seen_from};
+ghost use Rattle.bk_rules.specs.Example.{seen_from};
+ghost use Rattle.bk_state.specs.Example.{low, marked, middle};
 ghost use Rattle.bk_rules.specs.declared.answers.Decision.TheVariants.{No, Yes};
 
 use crate::RuleFacts;
 use bk_object::Modes;
-use bk_state::{Cause, Rule};
+use bk_state::{CallCause, Rule};
 
 /// The answer of a rule, with the number of the cause of a refusal.
 #[derive(Clone, Copy, PartialEq, Eq, Debug)]
@@ -39,17 +40,17 @@ pub fn decide(facts: &RuleFacts, rule: Rule) -> Decision
 ///
 /// The order is: not named, no object, of a wrong kind, root, parent not written, not in the row, above the greatest level,
 /// wrong current level, a level that falls, taken, over quota. Each is made only for the rules that list it.
-pub fn refusal(facts: &RuleFacts, rule: Rule) -> Option<Cause>
+pub fn refusal(facts: &RuleFacts, rule: Rule) -> Option<CallCause>
     ensures first { result ≡ decisions.refusal_by facts.now rule }
 {
     match rule {
         Rule::Release => None,
-        _ if !facts.named => Some(Cause::NotNamed),
+        _ if !facts.named => Some(CallCause::NotNamed),
         Rule::Create => create(facts),
-        _ if !facts.there => Some(Cause::NoObject),
+        _ if !facts.there => Some(CallCause::NoObject),
         Rule::DeleteGroup => change_below(facts),
         Rule::Give | Rule::Rescind if !facts.modes.is_within(facts.kind.modes()) => {
-            Some(Cause::WrongKind)
+            Some(CallCause::WrongKind)
         }
         Rule::Give | Rule::Rescind => change_below(facts),
         Rule::GetRead | Rule::GetAppend | Rule::GetExecute | Rule::GetWrite => get(facts, rule),
@@ -79,31 +80,31 @@ pub fn law_example()
 {}
 
 // The last checks of create, for a named object.
-fn create(facts: &RuleFacts) -> Option<Cause>
+fn create(facts: &RuleFacts) -> Option<CallCause>
     requires { IsTrue facts.now.named }
     ensures first { result ≡ decisions.refusal_by facts.now Rule.Create }
 {
     if facts.root || !facts.parent_write {
         change_below(facts)
     } else if !facts.new_level.dominates(facts.parent_level) {
-        Some(Cause::LevelFalls)
+        Some(CallCause::LevelFalls)
     } else if facts.taken {
-        Some(Cause::Taken)
+        Some(CallCause::Taken)
     } else if !facts.fits {
-        Some(Cause::OverQuota)
+        Some(CallCause::OverQuota)
     } else {
         None
     }
 }
 
 // The checks for a change below a directory: of an object that isn't root, and whose parent the caller holds by write.
-fn change_below(facts: &RuleFacts) -> Option<Cause>
+fn change_below(facts: &RuleFacts) -> Option<CallCause>
     ensures first { result ≡ decisions.first_of (causes.IsRoot ∷ causes.NoParentWrite ∷ []) facts.now Rule.DeleteGroup }
 {
     if facts.root {
-        Some(Cause::IsRoot)
+        Some(CallCause::IsRoot)
     } else if !facts.parent_write {
-        Some(Cause::NoParentWrite)
+        Some(CallCause::NoParentWrite)
     } else {
         None
     }
@@ -111,7 +112,7 @@ fn change_below(facts: &RuleFacts) -> Option<Cause>
 
 // The last checks of the four rules by which a subject comes to hold an object that is named and there. Get-append doesn't
 // ask for the greatest level.
-fn get(facts: &RuleFacts, rule: Rule) -> Option<Cause>
+fn get(facts: &RuleFacts, rule: Rule) -> Option<CallCause>
     requires get { IsTrue (decisions.is_get rule) }
     requires named { IsTrue facts.now.named }
     requires there { IsTrue facts.now.there }
@@ -119,13 +120,13 @@ fn get(facts: &RuleFacts, rule: Rule) -> Option<Cause>
 {
     let mode = mode_of(rule);
     if !mode.is_within(facts.kind.modes()) {
-        Some(Cause::WrongKind)
+        Some(CallCause::WrongKind)
     } else if !mode.is_within(facts.row) {
-        Some(Cause::NotInRow)
+        Some(CallCause::NotInRow)
     } else if rule != Rule::GetAppend && !facts.f_s.dominates(facts.f_o) {
-        Some(Cause::AboveGreatest)
+        Some(CallCause::AboveGreatest)
     } else if !is_star(facts, rule) {
-        Some(Cause::WrongCurrent)
+        Some(CallCause::WrongCurrent)
     } else {
         None
     }

@@ -9,7 +9,8 @@ use Rattle.std.proofs.lemmas.List.{append-nil}
 use Rattle.std.proofs.lemmas.List.Elements.{All-nil, All-cons, All-append, recursion_from_All}
 use Rattle.std.proofs.lemmas.List.Splits.{slice_split_at, slice_split_none}
 use Rattle.bk_system.specs.declared.TypedAt.{TypedAt}
-use Rattle.bk_script.specs.Limits.{most_bytes, most_slots, most_turns}
+use Rattle.bk_script.specs.Limits.{most_bytes}
+use Rattle.bk_system.specs.Limits.{most_slots, most_turns_of_run}
 use Rattle.bk_script.specs.declared.fault.ScriptFault.{ScriptFault}
 use Rattle.bk_script.specs.declared.line.Line.{Line}
 use Rattle.bk_script.specs.declared.line.Line.TheVariants.{Record, Ends}
@@ -149,14 +150,14 @@ record_passes lines at before slot line s l f =
     let b : nat_le lines line ≡ false = grind (arith, nat_tests, l) in
     rw (a, b, f) refl
 
-end_passes : (turns at : ℕ) (before : List TypedAt) (slots : ℕ) → slots ≤ most_slots → slots * turns ≤ most_turns → is_below (last before) slots ≡ true
+end_passes : (turns at : ℕ) (before : List TypedAt) (slots : ℕ) → slots ≤ most_slots → slots * turns ≤ most_turns_of_run → is_below (last before) slots ≡ true
     → first_failing (fault_at at) (end_checks turns before slots) ≡ Ok tt
 end_passes turns at before slots few within f =
     let a : nat_lt most_slots slots ≡ false = grind (arith, nat_tests, few) in
-    let b : nat_lt most_turns (slots * turns) ≡ false = grind (arith, nat_tests, within) in
+    let b : nat_lt most_turns_of_run (slots * turns) ≡ false = grind (arith, nat_tests, within) in
     rw (a, b, f) refl
 
-again_at : (lines turns slots : ℕ) → slots ≤ most_slots → slots * turns ≤ most_turns → (xs : List TypedAt) (at : ℕ) (before : List TypedAt)
+again_at : (lines turns slots : ℕ) → slots ≤ most_slots → slots * turns ≤ most_turns_of_run → (xs : List TypedAt) (at : ℕ) (before : List TypedAt)
     → AllByRecursion (IsGood lines slots) xs → Follow (last before) xs → is_below (last (before ++ xs)) slots ≡ true
     → lines_at lines turns at before (slice_split (λ b. b == 10) (text_of xs slots)) ≡ Ok (before ++ xs, slots)
 again_at lines turns slots few within [] at before good follow below =

@@ -9,7 +9,8 @@ use Rattle.std.proofs.lemmas.List.{append-nil}
 use Rattle.std.proofs.lemmas.List.Elements.{All-from_recursion}
 use Rattle.std.proofs.lemmas.List.Splits.{join_with_byte-slice_split}
 use Rattle.bk_system.specs.declared.TypedAt.{TypedAt}
-use Rattle.bk_script.specs.Limits.{most_bytes, most_slots, most_turns}
+use Rattle.bk_script.specs.Limits.{most_bytes}
+use Rattle.bk_system.specs.Limits.{most_slots, most_turns_of_run}
 use Rattle.bk_script.specs.declared.fault.ScriptFault.{ScriptFault}
 use Rattle.bk_script.specs.declared.fault.ScriptKind.TheVariants as kind
 use Rattle.bk_script.specs.declared.line.Line.{Line}
@@ -38,7 +39,7 @@ pub record Reads (lines turns : ℕ) (before : List TypedAt) (text : List ℕ) (
   pub all : records ≡ before ++ added
   pub spelt : text ≡ text_of added slots
   pub few : slots ≤ most_slots
-  pub within : slots * turns ≤ most_turns
+  pub within : slots * turns ≤ most_turns_of_run
   pub read : AllByRecursion (IsRead lines) added
   pub follow : Follow (last before) added
   pub below : is_below (last records) slots ≡ true
@@ -83,13 +84,13 @@ end_reads lines turns at before text slots n rest records x is passed ok =
     let e = ended_ok (at + 1) before slots rest records n ok in
     let below : is_below (last before) slots ≡ true = not-false (is_below (last before) slots) checks.1.0 in
     let few : slots ≤ most_slots = grind (arith, nat_tests, checks.0) in
-    let within : slots * turns ≤ most_turns = grind (arith, nat_tests, checks.0) in
+    let within : slots * turns ≤ most_turns_of_run = grind (arith, nat_tests, checks.0) in
     record {
       added = [];
       all = sym e.1.0 ∙ sym (append-nil before);
       spelt = rw (is.text_is, e.0, ← e.1.1) refl;
       few = subst (λ k. k ≤ most_slots) e.1.1 few;
-      within = subst (λ k. k * turns ≤ most_turns) e.1.1 within;
+      within = subst (λ k. k * turns ≤ most_turns_of_run) e.1.1 within;
       read = tt;
       follow = tt;
       below = subst (λ rs. is_below (last rs) n ≡ true) e.1.0 (subst (λ k. is_below (last before) k ≡ true) e.1.1 below);

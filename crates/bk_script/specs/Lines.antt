@@ -2,7 +2,8 @@
 use Rattle.std.specs.Prelude.{ℕ, ◌+◌, ◌-◌, ◌*◌, Bool, true, not, ◌&&◌, ◌||◌, if◌then◌else◌, nat_lt, nat_le, ◌==◌, List, [], ◌∷◌, ◌++◌, length, slice_get}
 use Rattle.std.specs.Prelude.{bytes_eq, codes, Option, Some, None, Result, Ok}
 use Rattle.std.specs.List.{slice_split}
-use Rattle.bk_script.specs.Limits.{most_bytes, most_slots, most_turns}
+use Rattle.bk_script.specs.Limits.{most_bytes}
+use Rattle.bk_system.specs.Limits.{most_slots, most_turns_of_run}
 use Rattle.bk_script.specs.declared.fault.ScriptFault.{ScriptFault}
 use Rattle.bk_script.specs.declared.fault.ScriptKind.{ScriptKind}
 use Rattle.bk_script.specs.declared.fault.ScriptKind.TheVariants as kind
@@ -59,7 +60,7 @@ record_checks lines before slot line =
 -- the checks of the END line after the records
 abbrev pub end_checks : ℕ → List TypedAt → ℕ → List (ScriptKind × Bool)
 end_checks turns before slots =
-    (kind.Limit, nat_lt most_slots slots || nat_lt most_turns (slots * turns))
+    (kind.Limit, nat_lt most_slots slots || nat_lt most_turns_of_run (slots * turns))
     ∷ (kind.Slot, not (is_below (last before) slots))
     ∷ []
 

@@ -1,6 +1,6 @@
 -- A script's text, and what holds of a script.
 use Rattle.std.specs.Prelude.{◌≡◌, ℕ, ◌+◌, ◌/◌, ◌%◌, nat_le, if◌then◌else◌, ◌*◌, ◌<◌, ◌≤◌, ◌^◌, ◌⊎◌, List, [], ◌∷◌, ◌++◌, length, flat_map, All, codes, decimal}
-use Rattle.bk_script.specs.Limits.{most_slots, most_turns}
+use Rattle.bk_system.specs.Limits.{most_slots, most_turns_of_run}
 use Rattle.bk_system.specs.declared.TypedAt.{TypedAt}
 use Rattle.bk_system.specs.declared.Script.{Script}
 
@@ -41,7 +41,7 @@ IsInOrder (one ∷ two ∷ records) = IsAbove one two × IsInOrder (two ∷ reco
 -- what holds of the records and the number of slots, for an image of so many lines and turns
 pub record IsScript (lines turns : ℕ) (records : List TypedAt) (slots : ℕ) : Type 0 where
   pub few : slots ≤ most_slots
-  pub within : slots * turns ≤ most_turns
+  pub within : slots * turns ≤ most_turns_of_run
   pub typed : All (IsTyped lines slots) records
   pub order : IsInOrder records
 

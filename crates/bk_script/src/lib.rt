@@ -1,6 +1,6 @@
 //! Scripts: the bytes that are typed in a run, by slot and line, read from their text.
 //!
-//! Model: `specs/Limits.antt` (how much a script has), `specs/Fields.antt` (numbers and bytes as text), `specs/Lines.antt`
+//! Model: `specs/Limits.antt` (how long a script is), `specs/Fields.antt` (numbers and bytes as text), `specs/Lines.antt`
 //! (`script_of`: the records, or the first fault), `specs/Fault.antt` (the word for each fault), `specs/Script.antt`
 //! (`text_of`, `IsScript`).
 //! Calls: `read_script`; `ScriptKind::text`; `law_read_again`, `law_example`.

@@ -9,13 +9,13 @@ use Rattle.bk_level.specs.Levels.{level_at, dominates}
 use Rattle.bk_path.specs.Paths.{Path, parent, is_same, is_inferior}
 use Rattle.bk_object.specs.Limits.{bytes_of_block}
 use Rattle.bk_object.specs.Modes.{Read, Execute, Write, Append, modes_where, has, is_within}
-use Rattle.bk_object.specs.Kinds.{is_directory, kind_modes, kind_number}
+use Rattle.bk_object.specs.Kinds.{is_directory, kind_modes, kind_number, blocks_or_line}
 use Rattle.bk_object.specs.Rows.{in_row, given, rescinded}
 use Rattle.bk_object.specs.declared.Facts.{Facts}
 use Rattle.bk_quota.specs.Charges.{passes, charge_of, governing_in, level_in, quota_in, used_in}
 use Rattle.bk_process.specs.declared.process.Process.{Process}
-use Rattle.bk_state.specs.declared.cause.Cause.{Cause}
-use Rattle.bk_state.specs.declared.cause.Cause.TheVariants as causes
+use Rattle.bk_state.specs.declared.cause.CallCause.{CallCause}
+use Rattle.bk_state.specs.declared.cause.CallCause.TheVariants as causes
 use Rattle.bk_state.specs.declared.rule.Rule.TheVariants.{GetRead, GetAppend, GetExecute, GetWrite, Release, Give, Rescind, Create, DeleteGroup}
 use Rattle.bk_state.specs.declared.call.Call.{Call}
 use Rattle.bk_state.specs.declared.call.Call.TheVariants.{ByRule, Other}
@@ -32,7 +32,7 @@ use Rattle.bk_state.specs.RowCalls.{give, rescind, changed_by, changed_at, with_
 use Rattle.bk_state.specs.TreeCalls.{create, delete_group, is_no_object, new_object}
 use Rattle.bk_state.specs.SegmentCalls.{window, unwindow, deposit}
 use Rattle.bk_state.specs.QueueCalls.{send, receive, line_out, line_in, message_in, of_contents, message_values, byte_values, byte_on}
-use Rattle.bk_state.specs.TellingCalls.{entry, identify, quota, child_at, size_of, entry_values}
+use Rattle.bk_state.specs.TellingCalls.{entry, identify, quota, child_at, entry_values}
 use Rattle.bk_state.specs.ProcessCalls.{pause, set_fault_entry, stop}
 use Rattle.bk_state.specs.Calls.{call_of, definition_of, call_refusal}
 use Rattle.bk_state.specs.Answers.{outcome, reply, with_values, with_call, refused, answered_by, called_by, called}
@@ -69,7 +69,7 @@ module _ (v w : State) (s : ℕ) (objects : v.objects ≡ w.objects) (access : v
 
   entry_as : (path : Path) (o : Option Facts) → entry_values v s path o ≡ entry_values w s path o
   entry_as path None = refl
-  entry_as path (Some facts) = λ i. 0 ∷ 0 ∷ (256 * kind_number facts.kind + size_of facts.kind facts.blocks) ∷ facts.level ∷ (modes_where (λ mode. set.contains (access i) (s, path, mode))).0 ∷ (in_row facts.row s).0 ∷ []
+  entry_as path (Some facts) = λ i. 0 ∷ 0 ∷ (256 * kind_number facts.kind + blocks_or_line facts.kind facts.blocks) ∷ facts.level ∷ (modes_where (λ mode. set.contains (access i) (s, path, mode))).0 ∷ (in_row facts.row s).0 ∷ []
 
   get_read-alike : (request : Request) → Alike get_read request
   get_read-alike request = record {
@@ -324,7 +324,7 @@ module _ (v w : State) (s : ℕ) (objects : v.objects ≡ w.objects) (access : v
   named [] = refl
   named (at ∷ path) = λ i. passes (λ facts. is_directory facts.kind) (option_map (λ o. o.facts) (map.get (objects i) path)) && (set.contains (access i) (s, path, Read) || set.contains (access i) (s, path, Write))
 
-  each_fails : (call : KernelCall) (request : Request) → Alike call request → (cause : Cause) → fails v s call request cause ≡ fails w s call request cause
+  each_fails : (call : KernelCall) (request : Request) → Alike call request → (cause : CallCause) → fails v s call request cause ≡ fails w s call request cause
   each_fails call request alike causes.NoPath = refl
   each_fails call request alike causes.BadArgument = alike.wrong
   each_fails call request alike causes.NotNamed = λ i. not (named request.path i)
@@ -364,7 +364,7 @@ module _ (v w : State) (s : ℕ) (objects : v.objects ≡ w.objects) (access : v
   unfolding reply
   replies call general = (each-alike call (request_in general)).gives
 
-  answered-alike : (p : Process) (call : Call) (o : Option Cause) → answered_by v s p call o ≡ answered_by w s p call o
+  answered-alike : (p : Process) (call : Call) (o : Option CallCause) → answered_by v s p call o ≡ answered_by w s p call o
   answered-alike p call None = λ i. record {
     objects = outcome_objects call p.registers.general i;
     access = outcome_access call p.registers.general i;

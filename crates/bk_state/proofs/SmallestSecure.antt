@@ -1,12 +1,13 @@
 -- The smallest state is secure.
-use Rattle.std.proofs.Common.{◌≡◌, ℕ, zero, suc, ◌+◌, ◌<◌, ◌≤◌, Bool, true, false, ◌||◌, ◌&&◌, [], ◌∷◌, Option, Some, None, refl, sym, ap, subst, ◌∙◌, inl, inr, replicate, unwrap_or, get_or, cond, arith}
+use Rattle.std.proofs.Common.{◌≡◌, ℕ, zero, suc, ◌+◌, ◌<◌, ◌≤◌, Bool, true, false, ◌||◌, ◌&&◌, [], ◌∷◌, Option, Some, None, refl, sym, ap, subst, ◌∙◌}
+use Rattle.std.proofs.Common.{inl, inr, replicate, unwrap_or, get_or, cond, arith}
 use Rattle.std.specs.Prelude.{option_map, sum_by, length}
 use Rattle.std.specs.List.{IsDistinct}
 use Rattle.std.specs.Ordering.{eq_by_cmp}
 use Rattle.std.specs.FinMap as map
 use Rattle.std.specs.FinSet as set
 use Rattle.bk_level.specs.Levels.{dominates, is_same_level}
-use Rattle.bk_object.specs.Modes.{Mode, Read, Execute, Write, Append, has, no_modes}
+use Rattle.bk_object.specs.Modes.{AccessMode, Read, Execute, Write, Append, has, no_modes}
 use Rattle.bk_object.specs.Kinds.{kind_modes, is_directory}
 use Rattle.bk_object.specs.Rows.{in_row, most_subjects}
 use Rattle.bk_object.specs.declared.Kind.TheVariants.{Directory}
@@ -46,21 +47,21 @@ no_modes_at zero s = refl
 no_modes_at (suc n) zero = refl
 no_modes_at (suc n) (suc s) = no_modes_at n s
 
-in_only_row : (s : ℕ) (x : Mode) → has (in_row only_row s) x ≡ true → (has (kind_modes Directory) x ≡ true) × (s < 1)
+in_only_row : (s : ℕ) (x : AccessMode) → has (in_row only_row s) x ≡ true → (has (kind_modes Directory) x ≡ true) × (s < 1)
 in_only_row zero Read h = cc
 in_only_row zero Execute h = cc
 in_only_row zero Write h = (refl, omega arith)
 in_only_row zero Append h = cc
 in_only_row (suc s) x h = absurd (none x (subst (λ modes. has modes x ≡ true) (no_modes_at 31 s) h))
   where
-    none : (x : Mode) → has no_modes x ≡ true → ⊥
+    none : (x : AccessMode) → has no_modes x ≡ true → ⊥
     none Read h = cc
     none Execute h = cc
     none Write h = cc
     none Append h = cc
 
 -- what is held is root, by subject 0, by write
-held_root : (s : ℕ) (p : Path) (x : Mode) → holds smallest s p x ≡ true → (s ≡ 0) × (p ≡ []) × (x ≡ Write)
+held_root : (s : ℕ) (p : Path) (x : AccessMode) → holds smallest s p x ≡ true → (s ≡ 0) × (p ≡ []) × (x ≡ Write)
 held_root s p x h = by (eq_by_cmp triple_cmp (s, p, x) (0, [], Write)) refl (sym (set.contains-from_list triple_total ((0, [], Write) ∷ []) (s, p, x)) ∙ h)
   where
     by : (b : Bool) → eq_by_cmp triple_cmp (s, p, x) (0, [], Write) ≡ b → (b || false) ≡ true → (s ≡ 0) × (p ≡ []) × (x ≡ Write)

@@ -2,7 +2,7 @@
 use Rattle.std.proofs.Common.{◌≡◌, refl, ap, is_eq, Equal, Less, Greater, Ordering, true}
 use Rattle.std.specs.Ordering.{eq_by_cmp, nat_cmp, ordering_then}
 use Rattle.std.specs.FinMap.{nat_cmp-IsAntisymmetric}
-use Rattle.bk_object.specs.Modes.{Mode, Read, Execute, Write, Append, mode_number}
+use Rattle.bk_object.specs.Modes.{AccessMode, Read, Execute, Write, Append, mode_number}
 use Rattle.bk_path.specs.Paths.{path_cmp}
 use Rattle.bk_state.specs.State.{Triple, triple_cmp}
 use Rattle.bk_path.specs.Orders.{path_apart}
@@ -14,7 +14,7 @@ first_tied Equal Equal e = (refl, refl)
 first_tied Equal Greater e = cc
 first_tied Greater b e = cc
 
-pub mode_number-same : (x y : Mode) → mode_number x ≡ mode_number y → x ≡ y
+pub mode_number-same : (x y : AccessMode) → mode_number x ≡ mode_number y → x ≡ y
 mode_number-same Read Read e = refl
 mode_number-same Execute Execute e = refl
 mode_number-same Write Write e = refl

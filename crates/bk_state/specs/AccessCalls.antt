@@ -2,15 +2,15 @@
 use Rattle.std.specs.Prelude.{ℕ, not, ◌&&◌, ◌==◌, [], ◌∷◌, Some}
 use Rattle.std.specs.FinSet as set
 use Rattle.bk_path.specs.Paths.{Path, is_same}
-use Rattle.bk_object.specs.Modes.{Mode, Read, Execute, Write, Append, only, has}
+use Rattle.bk_object.specs.Modes.{AccessMode, Read, Execute, Write, Append, only, has}
 use Rattle.bk_object.specs.declared.Modes.{Modes}
-use Rattle.bk_state.specs.declared.cause.Cause.TheVariants.{NoPath, BadArgument, NotNamed, NoObject, WrongKind, NotInRow, AboveGreatest, WrongCurrent}
+use Rattle.bk_state.specs.declared.cause.CallCause.TheVariants.{NoPath, BadArgument, NotNamed, NoObject, WrongKind, NotInRow, AboveGreatest, WrongCurrent}
 use Rattle.bk_state.specs.State.{State}
 use Rattle.bk_state.specs.Request.{register, is_outside}
 use Rattle.bk_state.specs.KernelCall.{KernelCall, plain}
 
 -- the subject holds the object by the mode too
-abbrev pub with_triple : State → ℕ → Path → Mode → State
+abbrev pub with_triple : State → ℕ → Path → AccessMode → State
 with_triple v s path mode = record v { access = set.insert v.access (s, path, mode) }
 
 -- the subject no longer holds the object by these modes

@@ -1,12 +1,12 @@
 -- At which levels a subject may hold an object: the simple security condition and the *-property.
 use Rattle.std.specs.Prelude.{ℕ, Bool, true, ◌&&◌, Option, Some, None}
 use Rattle.bk_level.specs.Levels.{Level, dominates, is_same_level}
-use Rattle.bk_object.specs.Modes.{Mode, Read, Execute, Write, Append}
+use Rattle.bk_object.specs.Modes.{AccessMode, Read, Execute, Write, Append}
 use Rattle.bk_object.specs.declared.Facts.{Facts}
 use Rattle.bk_state.specs.State.{State, current_level, greatest_level, level_of}
 
 -- the simple security condition: for r, e and w the subject's greatest level dominates the object's
-abbrev pub is_simple : Mode → (greatest object : Level) → Bool
+abbrev pub is_simple : AccessMode → (greatest object : Level) → Bool
 is_simple Read greatest object = dominates greatest object
 is_simple Execute greatest object = dominates greatest object
 is_simple Write greatest object = dominates greatest object
@@ -14,20 +14,21 @@ is_simple Append greatest object = true
 
 -- the *-property: for r and e the subject's current level dominates the object's, for w it is the object's, and for a the
 -- object's dominates it
-abbrev pub is_star : Mode → (current object : Level) → Bool
+abbrev pub is_star : AccessMode → (current object : Level) → Bool
 is_star Read current object = dominates current object
 is_star Execute current object = dominates current object
 is_star Write current object = is_same_level object current
 is_star Append current object = dominates object current
 
 -- a subject with these levels may hold an object of this level by the mode
-abbrev pub allows : Mode → (greatest current object : Level) → Bool
+abbrev pub allows : AccessMode → (greatest current object : Level) → Bool
 allows mode greatest current object = is_simple mode greatest object && is_star mode current object
 
-abbrev pub is_allowed : State → (s : ℕ) → Facts → Mode → Bool
+-- a subject may hold an object in a mode: by its own levels and the object's
+abbrev pub is_allowed : State → (s : ℕ) → Facts → AccessMode → Bool
 is_allowed v s facts mode = allows mode (greatest_level v s) (current_level v s) (level_of v facts)
 
 -- of a mode that may not be asked for: the test where there is one
-abbrev pub by_mode : (Mode → Bool) → Option Mode → Bool
+abbrev pub by_mode : (AccessMode → Bool) → Option AccessMode → Bool
 by_mode test None = true
 by_mode test (Some mode) = test mode

@@ -5,8 +5,8 @@ use Rattle.std.specs.FinSet as set
 use Rattle.bk_path.specs.Paths.{path_cmp}
 use Rattle.bk_process.specs.declared.process.Process.{Process}
 use Rattle.bk_state.specs.declared.call.Call.{Call}
-use Rattle.bk_state.specs.declared.cause.Cause.{Cause}
-use Rattle.bk_state.specs.declared.cause.Cause.TheVariants.{NoCall}
+use Rattle.bk_state.specs.declared.cause.CallCause.{CallCause}
+use Rattle.bk_state.specs.declared.cause.CallCause.TheVariants.{NoCall}
 use Rattle.bk_state.specs.State.{State, Object, triple_cmp}
 use Rattle.bk_state.specs.Causes.{cause_number, answer_number}
 use Rattle.bk_state.specs.Request.{request_in}
@@ -42,11 +42,11 @@ pub record Called : Type 0 where
   pub objects : map.FinMap path_cmp Object
   pub access : set.FinSet triple_cmp
   pub process : Process
-  pub cause : Option Cause
+  pub cause : Option CallCause
   pub sent : Option (ℕ × ℕ)
 
 -- a refused call changes R0 and R1 alone
-abbrev pub refused : State → Process → Cause → Called
+abbrev pub refused : State → Process → CallCause → Called
 refused v p cause = record {
   objects = v.objects;
   access = v.access;
@@ -55,6 +55,7 @@ refused v p cause = record {
   sent = None;
 }
 
+-- a call that is answered yes
 abbrev pub answered_yes : State → (s : ℕ) → Process → Call → Called
 answered_yes v s p call = record {
   objects = (outcome v s call p.registers.general).objects;
@@ -64,10 +65,12 @@ answered_yes v s p call = record {
   sent = sent_by v call p.registers.general;
 }
 
-abbrev pub answered_by : State → (s : ℕ) → Process → Call → Option Cause → Called
+-- a call by its refusal, if it has one
+abbrev pub answered_by : State → (s : ℕ) → Process → Call → Option CallCause → Called
 answered_by v s p call None = answered_yes v s p call
 answered_by v s p call (Some cause) = refused v p cause
 
+-- a call by its definition, if there is such a call
 abbrev pub called_by : State → (s : ℕ) → Process → Option Call → Called
 called_by v s p None = refused v p NoCall
 called_by v s p (Some call) = answered_by v s p call (call_refusal v s call p.registers.general)

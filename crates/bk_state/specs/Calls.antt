@@ -1,6 +1,6 @@
 -- The kernel calls by their numbers, and the check by which each is refused.
 use Rattle.std.specs.Prelude.{ℕ, zero, suc, Bool, not, List, [], ◌∷◌, filter, Option, None, slice_get, find as first}
-use Rattle.bk_state.specs.declared.cause.Cause.{Cause}
+use Rattle.bk_state.specs.declared.cause.CallCause.{CallCause}
 use Rattle.bk_state.specs.declared.rule.Rule.{Rule}
 use Rattle.bk_state.specs.declared.rule.Rule.TheVariants.{GetRead, GetAppend, GetExecute, GetWrite, Release, Give, Rescind, Create, DeleteGroup}
 use Rattle.bk_state.specs.declared.call.Call.{Call}
@@ -68,11 +68,11 @@ definition_of (Other service) = service_call service
 -- ---- the nine rules, over a request whose words are a path and arguments
 
 -- the checks of a rule that look at the state, in their order
-abbrev pub rule_checks : Rule → List Cause
+abbrev pub rule_checks : Rule → List CallCause
 rule_checks rule = filter (λ cause. not (is_of_words cause)) (rule_call rule).checks
 
 -- the first of them that fails
-unfoldable pub refusal : State → (s : ℕ) → Rule → Request → Option Cause
+unfoldable pub refusal : State → (s : ℕ) → Rule → Request → Option CallCause
 refusal v s rule request = first (fails v s (rule_call rule) request) (rule_checks rule)
 
 -- the state after a call of the rule by the subject that is answered yes
@@ -82,9 +82,9 @@ changed v s rule request = (rule_call rule).changes v s request
 -- ---- all calls, over R0 to R5 of the caller
 
 -- the check of that cause fails
-abbrev pub call_fails : State → (s : ℕ) → Call → (general : List ℕ) → Cause → Bool
+abbrev pub call_fails : State → (s : ℕ) → Call → (general : List ℕ) → CallCause → Bool
 call_fails v s call general cause = fails v s (definition_of call) (request_in general) cause
 
 -- the first check of the call that fails
-unfoldable pub call_refusal : State → (s : ℕ) → Call → (general : List ℕ) → Option Cause
+unfoldable pub call_refusal : State → (s : ℕ) → Call → (general : List ℕ) → Option CallCause
 call_refusal v s call general = first (call_fails v s call general) (definition_of call).checks

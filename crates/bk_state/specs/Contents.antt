@@ -48,8 +48,8 @@ without_message (Messages (message ∷ waiting) lost) = Messages waiting 0
 without_message (Typed bytes) = Typed bytes
 
 -- the waiting bytes of a line after one more is typed: it is kept while fewer than 64 wait, and lost otherwise
-abbrev pub kept : (waiting : List ℕ) → (byte : ℕ) → List ℕ
-kept waiting byte = if nat_lt (length waiting) most_typed then waiting ++ byte ∷ [] else waiting
+abbrev pub queued : (waiting : List ℕ) → (byte : ℕ) → List ℕ
+queued waiting byte = if nat_lt (length waiting) most_typed then waiting ++ byte ∷ [] else waiting
 
 -- a typed byte waits
 abbrev pub has_byte : Contents → Bool

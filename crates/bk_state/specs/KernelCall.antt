@@ -4,24 +4,25 @@ use Rattle.std.specs.List.{list_any}
 use Rattle.bk_level.specs.Levels.{dominates, level_at}
 use Rattle.bk_path.specs.Paths.{parent, is_root, unpack}
 use Rattle.bk_object.specs.Limits.{bytes_of_block}
-use Rattle.bk_object.specs.Modes.{Mode, Write, no_modes, is_within}
+use Rattle.bk_object.specs.Modes.{AccessMode, Write, no_modes, is_within}
 use Rattle.bk_object.specs.Kinds.{kind_modes}
 use Rattle.bk_object.specs.Rows.{in_row}
 use Rattle.bk_object.specs.declared.Kind.{Kind}
 use Rattle.bk_object.specs.declared.Modes.{Modes}
 use Rattle.bk_process.specs.declared.process.Process.{Process}
 use Rattle.bk_quota.specs.Charges.{charge_of}
-use Rattle.bk_state.specs.declared.cause.Cause.{Cause}
-use Rattle.bk_state.specs.declared.cause.Cause.TheVariants as causes
+use Rattle.bk_state.specs.declared.cause.CallCause.{CallCause}
+use Rattle.bk_state.specs.declared.cause.CallCause.TheVariants as causes
 use Rattle.bk_state.specs.State.{State, facts_at, holds, current_level, greatest_level, level_of}
 use Rattle.bk_state.specs.Allowed.{is_simple, is_star, by_mode}
 use Rattle.bk_state.specs.Named.{passes, is_named}
 use Rattle.bk_state.specs.Quota.{used, governing, level_number, quota_at}
 use Rattle.bk_state.specs.Request.{Request, register, new_facts}
 
+-- all that defines one kernel call
 pub record KernelCall : Type 0 where
   -- its checks, in the order in which they are made; that there is such a call is checked before them
-  pub checks : List Cause
+  pub checks : List CallCause
   -- its arguments are outside their ranges
   pub is_wrong : State → Request → Bool
   -- the kinds of object that it is for
@@ -29,9 +30,9 @@ pub record KernelCall : Type 0 where
   -- the modes that it asks for, which have to be modes of the object's kind
   pub modes : Request → Modes
   -- the mode by which the caller is to hold the object: it has to be in the caller's row, and the levels have to allow it
-  pub mode : Option Mode
+  pub mode : Option AccessMode
   -- the modes of which the caller has to hold one
-  pub needs : List Mode
+  pub needs : List AccessMode
   -- nothing is there that it could give
   pub is_empty : State → Request → Bool
   -- on yes: what becomes of the objects and of the current access set, for the caller with that number
@@ -72,7 +73,7 @@ has_room v request =
     nat_le (used v cell + charge_of (new_facts request above) above) (quota_at v cell)
 
 -- the check of that cause fails, for a call by the subject
-abbrev pub fails : State → (s : ℕ) → KernelCall → Request → Cause → Bool
+abbrev pub fails : State → (s : ℕ) → KernelCall → Request → CallCause → Bool
 fails v s call request causes.NoPath = is_none (unpack (register request 1) (register request 2))
 fails v s call request causes.BadArgument = call.is_wrong v request
 fails v s call request causes.NotNamed = not (is_named v s request.path)

@@ -2,7 +2,7 @@
 use Rattle.std.specs.Prelude.{ℕ, Bool, true, ◌&&◌, [], ◌∷◌, length, Option, Some, None, nat_lt, slice_index, if◌then◌else◌}
 use Rattle.bk_level.specs.Levels.{Level, dominates, level_at}
 use Rattle.bk_path.specs.Paths.{Path}
-use Rattle.bk_object.specs.Modes.{Mode}
+use Rattle.bk_object.specs.Modes.{AccessMode}
 use Rattle.bk_object.specs.declared.Facts.{Facts}
 use Rattle.bk_process.specs.declared.process.Process.{Process}
 use Rattle.bk_quota.specs.Charges.{passes}
@@ -25,6 +25,7 @@ abbrev pub shows : Level → State → Path → Bool
 shows level v [] = true
 shows level v (entry ∷ path) = passes (is_under level v) (facts_at v path)
 
+-- the contents of an object, if it is there and lies under the level
 abbrev pub contents_under : Level → State → Option Object → Option Contents
 contents_under level v None = None
 contents_under level v (Some object) = if is_under level v object.facts then Some object.contents else None
@@ -36,7 +37,7 @@ pub record View : Type 0 where
   -- the process of a subject
   pub process : (s : ℕ) → Option Process
   -- whether a subject holds an object by a mode
-  pub holds : (s : ℕ) → Path → Mode → Bool
+  pub holds : (s : ℕ) → Path → AccessMode → Bool
   -- kind, blocks, level, quota and row of an object
   pub facts : Path → Option Facts
   pub contents : Path → Option Contents

@@ -2,7 +2,7 @@
 use Rattle.std.specs.Prelude.{◌%◌, ◌||◌, [], ◌∷◌, nat_le, ◌==◌, slice_set}
 use Rattle.bk_process.specs.NewProcess.{entries_of_process}
 use Rattle.bk_process.specs.declared.status.Status9.TheVariants.{Paused, Stopped}
-use Rattle.bk_state.specs.declared.cause.Cause.TheVariants.{BadArgument}
+use Rattle.bk_state.specs.declared.cause.CallCause.TheVariants.{BadArgument}
 use Rattle.bk_state.specs.Request.{register}
 use Rattle.bk_state.specs.KernelCall.{KernelCall, plain}
 

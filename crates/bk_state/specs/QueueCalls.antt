@@ -4,7 +4,7 @@ use Rattle.bk_object.specs.Modes.{Write, Append}
 use Rattle.bk_object.specs.Kinds.{is_mailbox, is_any_line}
 use Rattle.bk_object.specs.declared.Kind.{Kind}
 use Rattle.bk_object.specs.declared.Kind.TheVariants.{Directory, Segment, Mailbox, Line}
-use Rattle.bk_state.specs.declared.cause.Cause.TheVariants.{NoPath, NotNamed, NoObject, WrongKind, NotHeld, Empty}
+use Rattle.bk_state.specs.declared.cause.CallCause.TheVariants.{NoPath, NotNamed, NoObject, WrongKind, NotHeld, Empty}
 use Rattle.bk_state.specs.State.{State, Object, Contents, Children, Words, Messages, Typed, find}
 use Rattle.bk_state.specs.Contents.{with_contents, put, has_message, without_message, has_byte, without_byte}
 use Rattle.bk_state.specs.Named.{passes}

@@ -24,6 +24,7 @@ pub record Request : Type 0 where
 abbrev pub register : Request → (n : ℕ) → ℕ
 register request n = slice_index request.general n
 
+-- a path that does not unpack stands for root
 abbrev pub path_or_root : Option Path → Path
 path_or_root (Some path) = path
 path_or_root None = []

@@ -4,12 +4,13 @@ use Rattle.std.specs.FinMap as map
 use Rattle.bk_path.specs.Paths.{Path}
 use Rattle.bk_object.specs.Rows.{given, rescinded}
 use Rattle.bk_object.specs.declared.Modes.{Modes}
-use Rattle.bk_state.specs.declared.cause.Cause.TheVariants.{NoPath, BadArgument, NotNamed, NoObject, WrongKind, IsRoot, NoParentWrite}
+use Rattle.bk_state.specs.declared.cause.CallCause.TheVariants.{NoPath, BadArgument, NotNamed, NoObject, WrongKind, IsRoot, NoParentWrite}
 use Rattle.bk_state.specs.State.{State, Object, find}
 use Rattle.bk_state.specs.Request.{Request, register, is_outside}
 use Rattle.bk_state.specs.KernelCall.{KernelCall, plain}
 use Rattle.bk_state.specs.AccessCalls.{without_triples}
 
+-- a state in which the object at a path, if it was found, is changed
 abbrev pub changed_by : State → Path → (Object → Object) → Option Object → State
 changed_by v path change None = v
 changed_by v path change (Some object) = record v { objects = map.insert v.objects path (change object) }

@@ -4,7 +4,7 @@ use Rattle.std.specs.List.{list_all, IsDistinct}
 use Rattle.bk_level.specs.Levels.{dominates, is_same_level}
 use Rattle.bk_path.specs.Paths.{Path}
 use Rattle.bk_object.specs.Limits.{most_blocks, words_of_block, largest_quota, most_messages, words_of_message, most_typed}
-use Rattle.bk_object.specs.Modes.{Mode, has}
+use Rattle.bk_object.specs.Modes.{AccessMode, has}
 use Rattle.bk_object.specs.Kinds.{kind_modes, is_directory}
 use Rattle.bk_object.specs.Rows.{in_row, most_subjects}
 use Rattle.bk_object.specs.declared.Kind.{Kind}
@@ -58,6 +58,7 @@ pub record HasShape (v : State) : Type 0 where
   pub rows : (path : Path) (facts : Facts) → facts_at v path ≡ Some facts → length facts.row ≡ most_subjects
   pub processes : list_all is_whole v.processes ≡ true
 
+-- a secure state
 pub record Secure (v : State) : Type 0 where
   -- there are as many processes as subjects
   pub processes : length v.processes ≡ length v.fixed.subjects
@@ -81,13 +82,13 @@ pub record Secure (v : State) : Type 0 where
   pub no_limits : (path : Path) → ¬ HasCell v path → quota_at v path ≡ 0
   pub quotas : (path : Path) → HasCell v path → used v path ≤ quota_at v path
   -- rows hold modes of the kind, and only for subjects that are there
-  pub rows : (path : Path) (facts : Facts) (s : ℕ) (mode : Mode) → facts_at v path ≡ Some facts → has (in_row facts.row s) mode ≡ true →
+  pub rows : (path : Path) (facts : Facts) (s : ℕ) (mode : AccessMode) → facts_at v path ≡ Some facts → has (in_row facts.row s) mode ≡ true →
       (has (kind_modes facts.kind) mode ≡ true) × (s < length v.fixed.subjects)
   -- what a subject holds is there, the mode is in its row, and the levels allow it
-  pub access : (s : ℕ) (path : Path) (mode : Mode) → holds v s path mode ≡ true →
+  pub access : (s : ℕ) (path : Path) (mode : AccessMode) → holds v s path mode ≡ true →
       passes (λ facts. has (in_row facts.row s) mode && is_allowed v s facts mode) (facts_at v path) ≡ true
   -- the current level of who holds an object dominates the level of its parent
-  pub naming : (s entry : ℕ) (path : Path) (mode : Mode) → holds v s (entry ∷ path) mode ≡ true →
+  pub naming : (s entry : ℕ) (path : Path) (mode : AccessMode) → holds v s (entry ∷ path) mode ≡ true →
       passes (λ above. dominates (current_level v s) (level_of v above)) (facts_at v path) ≡ true
   -- fault entries are even; mode, register set and priority of a process are right by its type
   pub entries : list_all (λ process. list_all (λ entry. entry % 2 == 0) process.entries) v.processes ≡ true

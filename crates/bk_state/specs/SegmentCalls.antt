@@ -3,7 +3,7 @@ use Rattle.std.specs.Prelude.{◌/◌, ◌%◌, [], ◌∷◌, Some, None, nat_l
 use Rattle.bk_object.specs.Modes.{Read, Execute, Write, Append}
 use Rattle.bk_object.specs.Kinds.{is_segment}
 use Rattle.bk_process.specs.NewProcess.{windows_of_process}
-use Rattle.bk_state.specs.declared.cause.Cause.TheVariants.{NoPath, BadArgument, NotNamed, NoObject, WrongKind, NotHeld, TooLong}
+use Rattle.bk_state.specs.declared.cause.CallCause.TheVariants.{NoPath, BadArgument, NotNamed, NoObject, WrongKind, NotHeld, TooLong}
 use Rattle.bk_state.specs.Contents.{with_contents, with_word}
 use Rattle.bk_state.specs.Request.{register}
 use Rattle.bk_state.specs.KernelCall.{KernelCall, plain}

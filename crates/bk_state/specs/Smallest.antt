@@ -18,12 +18,15 @@ use Rattle.bk_state.specs.State.{State, Object, Children}
 abbrev pub only_row : List Modes
 only_row = slice_set empty_row 0 (only Write)
 
+-- the one object: a root with a quota of 1
 abbrev pub only_root : Object
 only_root = record { facts = record { kind = Directory; blocks = 0; level = 0; quota = 1; row = only_row }; contents = Children }
 
+-- the one process, as it begins
 abbrev pub only_process : Process
 only_process = new_process (registers_of (status_of User User))
 
+-- one level, one subject, root alone, and nothing held
 abbrev pub smallest : State
 smallest = record {
   fixed = record {

@@ -1,12 +1,13 @@
 -- The state that an image stands for.
-use Rattle.std.specs.Prelude.{ℕ, ◌-◌, ◌*◌, ◌==◌, Bool, false, List, [], ◌∷◌, ◌++◌, length, map, filter, flat_map, replicate, find as first, Option, option_map, unwrap_or}
+use Rattle.std.specs.Prelude.{ℕ, ◌-◌, ◌*◌, ◌==◌, Bool, false, List, [], ◌∷◌, ◌++◌, length, map, filter, flat_map, replicate, find as first, Option}
+use Rattle.std.specs.Prelude.{option_map, unwrap_or}
 use Rattle.std.specs.List.{range_with_len}
 use Rattle.std.specs.FinMap as finmap
 use Rattle.std.specs.FinSet as set
 use Rattle.bk_path.specs.Paths.{Path}
 use Rattle.bk_object.specs.Limits.{words_of_block}
 use Rattle.bk_process.specs.NewProcess.{windows_of_process}
-use Rattle.bk_object.specs.Modes.{Mode, Read, Execute, Write, Append, has}
+use Rattle.bk_object.specs.Modes.{AccessMode, Read, Execute, Write, Append, has}
 use Rattle.bk_object.specs.declared.kind.Kind.{Kind}
 use Rattle.bk_object.specs.declared.kind.Kind.TheVariants.{Directory, Segment, Mailbox, Line}
 use Rattle.bk_object.specs.declared.modes.Modes.{Modes}
@@ -32,6 +33,7 @@ contents_from Segment blocks words = Words (padded blocks words)
 contents_from Mailbox blocks words = Messages [] 0
 contents_from (Line n) blocks words = Typed []
 
+-- the object that a record of the image stands for
 abbrev pub object_from : ObjectRec → Object
 object_from o = record { facts = o.facts; contents = contents_from o.facts.kind o.facts.blocks o.words }
 
@@ -58,16 +60,19 @@ process_from s = record {
   status = Running;
 }
 
+-- the levels of a subject's record
 abbrev pub clearance_from : SubjectRec → Clearance
 clearance_from s = record { greatest = s.f_s; current = s.f_c }
 
 -- the modes of a set
-abbrev pub modes_in : Modes → List Mode
+abbrev pub modes_in : Modes → List AccessMode
 modes_in modes = filter (has modes) (Read ∷ Execute ∷ Write ∷ Append ∷ [])
 
+-- the triples that a hold stands for
 abbrev pub triples_from : Hold → List Triple
 triples_from h = map (λ x. (h.subject, h.path, x)) (modes_in h.modes)
 
+-- the line of that number
 abbrev pub is_line : ℕ → Kind → Bool
 is_line n Directory = false
 is_line n Segment = false

@@ -6,7 +6,7 @@ use Rattle.std.specs.FinMap as map
 use Rattle.std.specs.FinSet as set
 use Rattle.bk_level.specs.Levels.{Level, level_at}
 use Rattle.bk_path.specs.Paths.{Path, path_cmp}
-use Rattle.bk_object.specs.Modes.{Mode, mode_number}
+use Rattle.bk_object.specs.Modes.{AccessMode, mode_number}
 use Rattle.bk_object.specs.declared.facts.Facts.{Facts}
 use Rattle.bk_state.specs.declared.clearance.Clearance.{Clearance}
 use Rattle.bk_process.specs.declared.process.Process.{Process}
@@ -20,6 +20,7 @@ pub data Contents : Type 0 where
   Messages : (waiting : List (List ℕ)) (lost : ℕ) → Contents
   Typed : (bytes : List ℕ) → Contents
 
+-- an object: what its parent keeps of it, and what it holds
 pub record Object : Type 0 where
   pub facts : Facts
   pub contents : Contents
@@ -34,11 +35,13 @@ pub record Fixed : Type 0 where
 
 -- one current access: the subject, the path of the object, the mode
 abbrev pub Triple : Type 0
-Triple = ℕ × Path × Mode
+Triple = ℕ × Path × AccessMode
 
+-- triples in the order of subject, path and mode
 abbrev pub triple_cmp : Triple → Triple → Ordering
 triple_cmp = then_cmp (on (λ t. t.0) nat_cmp) (then_cmp (on (λ t. t.1) path_cmp) (on (λ t. mode_number t.2) nat_cmp))
 
+-- a state of the system
 pub record State : Type 0 where
   pub fixed : Fixed
   pub objects : map.FinMap path_cmp Object
@@ -54,13 +57,14 @@ abbrev pub facts_at : State → Path → Option Facts
 facts_at v p = option_map (λ o. o.facts) (find v p)
 
 -- the subject holds the object by the mode now
-abbrev pub holds : State → ℕ → Path → Mode → Bool
+abbrev pub holds : State → ℕ → Path → AccessMode → Bool
 holds v s p x = set.contains v.access (s, p, x)
 
 -- the process of a subject, where there is such a subject
 abbrev pub process_of : State → ℕ → Option Process
 process_of v s = slice_get v.processes s
 
+-- the levels of a subject; of none, the lowest
 abbrev pub clearance_of : State → ℕ → Clearance
 clearance_of v s = slice_index_or v.fixed.subjects s (record { greatest = 0; current = 0 })
 

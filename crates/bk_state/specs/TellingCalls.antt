@@ -2,12 +2,12 @@
 use Rattle.std.specs.Prelude.{ℕ, ◌+◌, ◌*◌, List, [], ◌∷◌, length, Option, Some, None, is_none, nat_lt, if◌then◌else◌}
 use Rattle.bk_path.specs.Paths.{Path}
 use Rattle.bk_object.specs.Modes.{Read, Write, modes_where}
-use Rattle.bk_object.specs.Kinds.{is_directory, kind_number}
+use Rattle.bk_object.specs.Kinds.{is_directory, kind_number, blocks_or_line}
 use Rattle.bk_object.specs.Rows.{in_row}
 use Rattle.bk_object.specs.declared.Kind.{Kind}
 use Rattle.bk_object.specs.declared.Kind.TheVariants.{Directory, Segment, Mailbox, Line}
 use Rattle.bk_object.specs.declared.Facts.{Facts}
-use Rattle.bk_state.specs.declared.cause.Cause.TheVariants.{NoPath, BadArgument, NotNamed, NoObject, WrongKind, NotHeld, Empty}
+use Rattle.bk_state.specs.declared.cause.CallCause.TheVariants.{NoPath, BadArgument, NotNamed, NoObject, WrongKind, NotHeld, Empty}
 use Rattle.bk_state.specs.State.{State, facts_at, holds, clearance_of}
 use Rattle.bk_state.specs.Quota.{governing, quota_at, used}
 use Rattle.bk_state.specs.Request.{register}
@@ -17,18 +17,11 @@ use Rattle.bk_state.specs.KernelCall.{KernelCall, plain, plain_yes}
 abbrev pub child_at : State → Path → (entry : ℕ) → Option Facts
 child_at v path entry = if nat_lt (length path) 7 then facts_at v (entry ∷ path) else None
 
--- the blocks of an object, or the line's number
-abbrev pub size_of : Kind → (blocks : ℕ) → ℕ
-size_of Directory blocks = blocks
-size_of Segment blocks = blocks
-size_of Mailbox blocks = blocks
-size_of (Line n) blocks = n
-
 -- R2 kind and blocks of a child, R3 the number of its level, R4 the modes by which the caller holds it, R5 those in its row
 abbrev pub entry_values : State → (s : ℕ) → (child : Path) → Option Facts → List ℕ
 entry_values v s child None = plain_yes
 entry_values v s child (Some facts) =
-    0 ∷ 0 ∷ (256 * kind_number facts.kind + size_of facts.kind facts.blocks) ∷ facts.level
+    0 ∷ 0 ∷ (256 * kind_number facts.kind + blocks_or_line facts.kind facts.blocks) ∷ facts.level
     ∷ (modes_where (holds v s child)).0 ∷ (in_row facts.row s).0 ∷ []
 
 -- entry: what stands at the directory's entry in R3, which is 0 to 15

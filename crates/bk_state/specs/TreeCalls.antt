@@ -4,7 +4,7 @@ use Rattle.std.specs.FinMap as map
 use Rattle.std.specs.FinSet as set
 use Rattle.bk_path.specs.Paths.{Path, parent, is_inferior}
 use Rattle.bk_object.specs.Limits.{most_blocks, largest_quota}
-use Rattle.bk_state.specs.declared.cause.Cause.TheVariants.{NoPath, BadArgument, NotNamed, NoObject, IsRoot, NoParentWrite, LevelFalls, Taken, OverQuota}
+use Rattle.bk_state.specs.declared.cause.CallCause.TheVariants.{NoPath, BadArgument, NotNamed, NoObject, IsRoot, NoParentWrite, LevelFalls, Taken, OverQuota}
 use Rattle.bk_state.specs.State.{State, Object}
 use Rattle.bk_state.specs.Contents.{new_contents}
 use Rattle.bk_state.specs.Quota.{level_number}
@@ -19,6 +19,7 @@ is_no_object kind blocks quota =
     if kind == 1 then is_outside 1 most_blocks blocks else (
     if kind == 2 then not (blocks == 0) else true))
 
+-- the object that is asked for, in a directory of that level
 abbrev pub new_object : Request → (above : ℕ) → Object
 new_object request above = record { facts = new_facts request above; contents = new_contents request.kind request.blocks }
 

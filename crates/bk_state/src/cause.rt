@@ -3,7 +3,7 @@ ghost use Rattle.bk_state.specs.Causes.{answer_number, cause_number, is_no};
 
 /// Why a kernel call is refused (own).
 #[derive(Clone, Copy, PartialEq, Eq, Debug)]
-pub enum Cause {
+pub enum CallCause {
     /// The wanted mode isn't in the caller's row.
     NotInRow,
     /// The caller's greatest level doesn't dominate the object's.
@@ -40,29 +40,29 @@ pub enum Cause {
     NoObject,
 }
 
-impl Cause {
+impl CallCause {
     /// The number that the caller finds in R1: 1 to 11 where the answer is no, 20 to 25 where it is `?`.
     pub fn number(self) -> u8
         ensures { result ≡ cause_number self }
     {
         match self {
-            Cause::NotInRow => 1,
-            Cause::AboveGreatest => 2,
-            Cause::WrongCurrent => 3,
-            Cause::NoParentWrite => 4,
-            Cause::LevelFalls => 5,
-            Cause::Taken => 6,
-            Cause::OverQuota => 7,
-            Cause::NotHeld => 8,
-            Cause::Empty => 9,
-            Cause::TooLong => 10,
-            Cause::IsRoot => 11,
-            Cause::NoCall => 20,
-            Cause::NoPath => 21,
-            Cause::NotNamed => 22,
-            Cause::WrongKind => 23,
-            Cause::BadArgument => 24,
-            Cause::NoObject => 25,
+            CallCause::NotInRow => 1,
+            CallCause::AboveGreatest => 2,
+            CallCause::WrongCurrent => 3,
+            CallCause::NoParentWrite => 4,
+            CallCause::LevelFalls => 5,
+            CallCause::Taken => 6,
+            CallCause::OverQuota => 7,
+            CallCause::NotHeld => 8,
+            CallCause::Empty => 9,
+            CallCause::TooLong => 10,
+            CallCause::IsRoot => 11,
+            CallCause::NoCall => 20,
+            CallCause::NoPath => 21,
+            CallCause::NotNamed => 22,
+            CallCause::WrongKind => 23,
+            CallCause::BadArgument => 24,
+            CallCause::NoObject => 25,
         }
     }
 

@@ -5,7 +5,7 @@ ghost use Rattle.bk_object.specs.Modes.{Read, Execute, Write, Append};
 ghost use Rattle.bk_state.specs.Allowed.{allows, is_simple, is_star};
 ghost use Rattle.bk_state.specs.Calls.{calls, definition_of};
 ghost use Rattle.bk_state.specs.Causes.{cause_number, order};
-ghost use Rattle.bk_state.specs.Contents.{kept, put, without_byte, without_message};
+ghost use Rattle.bk_state.specs.Contents.{queued, put, without_byte, without_message};
 ghost use Rattle.bk_state.specs.Example.{low, marked, middle};
 ghost use Rattle.bk_state.specs.Request.{is_outside, kind_from, path_in};
 ghost use Rattle.bk_state.specs.State.{Messages, Typed};
@@ -78,7 +78,7 @@ pub fn law_queues()
     ensures lost { put (1 ∷ []) (Messages (replicate 16 []) 2) ≡ Messages (replicate 16 []) 3 }
     ensures last { put (1 ∷ []) (Messages (replicate 16 []) 65535) ≡ Messages (replicate 16 []) 65535 }
     ensures taken { without_message (Messages ((1 ∷ []) ∷ (2 ∷ []) ∷ []) 3) ≡ Messages ((2 ∷ []) ∷ []) 0 }
-    ensures full { kept (replicate 64 7) 8 ≡ replicate 64 7 }
-    ensures kept { kept (replicate 63 7) 8 ≡ replicate 63 7 ++ 8 ∷ [] }
+    ensures full { queued (replicate 64 7) 8 ≡ replicate 64 7 }
+    ensures kept { queued (replicate 63 7) 8 ≡ replicate 63 7 ++ 8 ∷ [] }
     ensures byte { without_byte (Typed (104 ∷ 105 ∷ [])) ≡ Typed (105 ∷ []) }
 {}

@@ -7,9 +7,9 @@
 //! `specs/AccessCalls.antt`, `specs/RowCalls.antt`, `specs/TreeCalls.antt`, `specs/SegmentCalls.antt`, `specs/QueueCalls.antt`,
 //! `specs/TellingCalls.antt`, `specs/ProcessCalls.antt` (each call, one definition), `specs/Calls.antt` (the calls by their
 //! numbers, and the check by which each is refused), `specs/Answers.antt` (what a call comes to), `specs/Low.antt` (what a level
-//! sees of a state), `specs/Start.antt` (the state that an image stands for), `specs/Smallest.antt` (a small secure
-//! state), `specs/Example.antt` (levels for examples).
-//! Calls: `Cause::number`, `is_no`, `answer`. (`law_smallest`, `law_order_of_checks`, `law_numbers`, `law_what_a_call_looks_at`,
+//! sees of a state), `specs/Start.antt` (the state that an image stands for), `specs/Limits.antt` (how much an image has at
+//! most), `specs/Smallest.antt` (a small secure state), `specs/Example.antt` (levels for examples).
+//! Calls: `CallCause::number`, `is_no`, `answer`. (`law_smallest`, `law_order_of_checks`, `law_numbers`, `law_what_a_call_looks_at`,
 //! and the examples `law_checks`, `law_allowed`, `law_arguments`, `law_queues` are empty functions, for their contracts.)
 //! Proved: a secure state is there; the checks of each call stand in one order, and are those of its row; each call has its
 //! number; what a call looks at is told; what the examples show. The crates above prove their calls against these definitions.
@@ -27,7 +27,7 @@ mod laws;
 mod rule;
 
 pub use call::{Call, Service};
-pub use cause::Cause;
+pub use cause::CallCause;
 pub use clearance::Clearance;
 pub use examples::{law_allowed, law_arguments, law_checks, law_queues};
 pub use image::{Hold, Holds, Image, ObjectRec, Objects, SubjectRec, Subjects, WindowRec, Windows};

@@ -5,7 +5,7 @@ use Rattle.std.specs.Cmp.{both_ways}
 use Rattle.std.specs.FinMap as finite
 use Rattle.std.specs.FinSet as set
 use Rattle.std.proofs.lemmas.Bool.Decides.{nat_tests}
-use Rattle.bk_object.specs.Modes.{Mode, has}
+use Rattle.bk_object.specs.Modes.{AccessMode, has}
 use Rattle.bk_object.specs.declared.modes.Modes.{Modes}
 use Rattle.std.proofs.Common.{◌≢◌}
 use Rattle.std.proofs.lemmas.Option.{same_Some}
@@ -46,7 +46,7 @@ module _ (tree : Objects) (held : Held) (keeps : HasSlots tree held) (path : Pat
       by true e = let both : Some slot ≡ None = sym at ∙ ap (slot_in tree) (sym (same_path p path e)) ∙ is in cc
       by false e = refl
 
-  held-added : (subject : ℕ) (modes : Modes) (s : ℕ) (p : Path) (x : Mode) → is_held tree (added subject slot modes held) (s, p, x) ≡ (is_held tree held (s, p, x) || (((s == subject) && is_same p path) && has modes x))
+  held-added : (subject : ℕ) (modes : Modes) (s : ℕ) (p : Path) (x : AccessMode) → is_held tree (added subject slot modes held) (s, p, x) ≡ (is_held tree held (s, p, x) || (((s == subject) && is_same p path) && has modes x))
   held-added subject modes s p x = by (slot_in tree p) refl
     where
       nothing : (a m : Bool) → ((a && false) && m) ≡ false
@@ -56,7 +56,7 @@ module _ (tree : Objects) (held : Held) (keeps : HasSlots tree held) (path : Pat
       by None is = sym (ap (λ b. ((s == subject) && b) && has modes x) (not_there p is) ∙ nothing (s == subject) (has modes x))
       by (Some k) is = holds-added subject slot s k modes held x ∙ ap (λ b. holds held s k x || (((s == subject) && b) && has modes x)) (own_test p k is)
 
-  held-removed : (subject : ℕ) (modes : Modes) (s : ℕ) (p : Path) (x : Mode) → is_held tree (removed subject slot modes held) (s, p, x) ≡ (is_held tree held (s, p, x) && not (((s == subject) && is_same p path) && has modes x))
+  held-removed : (subject : ℕ) (modes : Modes) (s : ℕ) (p : Path) (x : AccessMode) → is_held tree (removed subject slot modes held) (s, p, x) ≡ (is_held tree held (s, p, x) && not (((s == subject) && is_same p path) && has modes x))
   held-removed subject modes s p x = by (slot_in tree p) refl
     where
       by : (o : Option ℕ) → slot_in tree p ≡ o → passes (λ k. holds (removed subject slot modes held) s k x) o ≡ (passes (λ k. holds held s k x) o && not (((s == subject) && is_same p path) && has modes x))

@@ -13,7 +13,7 @@ use Rattle.bk_object.specs.declared.kind.Kind.{Kind}
 use Rattle.bk_object.specs.declared.kind.Kind.TheVariants.{Directory, Segment, Mailbox, Line}
 use Rattle.bk_frames.specs.Extents.{Extent, sizes_of, taken_in}
 use Rattle.std.proofs.lemmas.List.{length-replicate}
-use Rattle.bk_object.specs.Modes.{Mode, Read, Execute, Write, Append, has, modes_where, no_modes}
+use Rattle.bk_object.specs.Modes.{AccessMode, Read, Execute, Write, Append, has, modes_where, no_modes}
 use Rattle.bk_object.specs.declared.Facts.{Facts}
 use Rattle.bk_object.specs.declared.modes.Modes.{Modes}
 use Rattle.bk_object.proofs.ModeLemmas.{has-modes_where, same_modes}
@@ -40,7 +40,7 @@ bit_most : (b : Bool) (n : ℕ) → (if b then n else 0) ≤ n
 bit_most true n = omega arith
 bit_most false n = omega arith
 
-four_modes : (test : Mode → Bool) → (modes_where test).0 < 16
+four_modes : (test : AccessMode → Bool) → (modes_where test).0 < 16
 four_modes test = omega (arith, bit_most (test Read) 1, bit_most (test Execute) 2, bit_most (test Write) 4, bit_most (test Append) 8)
 
 -- the modes at the slot are those by which the path is held
@@ -55,7 +55,7 @@ none_and : (r : Bool) → (r && false) ≡ false
 none_and true = refl
 none_and false = refl
 
-pub has-none : (x : Mode) → has no_modes x ≡ false
+pub has-none : (x : AccessMode) → has no_modes x ≡ false
 has-none Read = refl
 has-none Execute = refl
 has-none Write = refl

@@ -7,7 +7,7 @@ use Rattle.std.specs.FinSet as set
 use Rattle.bk_base.specs.Maps.{map_values}
 use Rattle.bk_base.proofs.MapValues.{get-map_values}
 use Rattle.bk_object.specs.declared.modes.Modes.{Modes}
-use Rattle.bk_object.specs.Modes.{Mode, Read, Execute, Write, Append, mode_number}
+use Rattle.bk_object.specs.Modes.{AccessMode, Read, Execute, Write, Append, mode_number}
 use Rattle.bk_object.specs.declared.Facts.{Facts}
 use Rattle.bk_object.specs.Rows.{given, rescinded}
 use Rattle.bk_path.specs.Paths.{Path, path_cmp, is_inferior}
@@ -21,9 +21,9 @@ use Rattle.bk_state.specs.AccessCalls.{with_triple, without_triples}
 use Rattle.bk_state.specs.RowCalls.{changed_at as state_changed_at, changed_by as state_changed_by, with_row as with_state_row}
 use Rattle.bk_state.specs.TreeCalls.{without_group as without_state_group}
 use Rattle.bk_state.proofs.Orders.{triple_total}
-use Rattle.bk_store.specs.Stored.{Entry, Queue, Stored, IsCreated, cell_of, changed_at, changed_by, contents_in, facts_in, fresh, kept}
+use Rattle.bk_store.specs.Stored.{Entry, Queue, Stored, IsCreated, cell_of, changed_at, changed_by, contents_in, facts_in, fresh, queued}
 use Rattle.bk_store.specs.Stored.{level_number, object_of, objects_of, triples_of, typing, waiting_in, with_given, with_held, with_input}
-use Rattle.bk_store.specs.Stored.{with_queue, with_rescinded, with_row, with_typed, without_group, without_held, written}
+use Rattle.bk_store.specs.Stored.{with_queue, with_rescinded, with_row, with_typed, without_group, without_held, word_written}
 use Rattle.bk_store.specs.Stands.{StandsFor}
 use Rattle.bk_store.proofs.Cells.{facts-same, level-same, usage-same, usage_in}
 use Rattle.bk_store.proofs.Triples.{triple_apart}
@@ -79,7 +79,7 @@ module _ (v : Stored) (words : List ℕ) (s : State) (stands : StandsFor v words
   }
 
   -- the subject holds the object by one mode more
-  pub stands-held : (subject : ℕ) (path : Path) (mode : Mode) → StandsFor (with_held subject path (record { 0 = mode_number mode }) v) words (with_triple s subject path mode)
+  pub stands-held : (subject : ℕ) (path : Path) (mode : AccessMode) → StandsFor (with_held subject path (record { 0 = mode_number mode }) v) words (with_triple s subject path mode)
   stands-held subject path mode = record {
     levels = stands.levels;
     lines = stands.lines;
@@ -87,7 +87,7 @@ module _ (v : Stored) (words : List ℕ) (s : State) (stands : StandsFor v words
     access = ap (λ ts. set.union v.access (set.from_list ts)) (one mode) ∙ added v.access ∙ ap (λ a. set.insert a (subject, path, mode)) stands.access;
   }
     where
-      one : (x : Mode) → triples_of subject path (record { 0 = mode_number x }) ≡ (subject, path, x) ∷ []
+      one : (x : AccessMode) → triples_of subject path (record { 0 = mode_number x }) ≡ (subject, path, x) ∷ []
       one Read = refl
       one Execute = refl
       one Write = refl
@@ -116,7 +116,7 @@ module _ (v : Stored) (words : List ℕ) (s : State) (stands : StandsFor v words
       by q (Some x) = kept_words _
 
   -- a byte is typed on a line
-  pub stands-typed : (line byte : ℕ) (becomes : Contents → Contents) → ((q : Queue) → waiting_in (with_input (λ bytes. kept bytes byte) q) ≡ becomes (waiting_in q)) → ((ws : List ℕ) → Words ws ≡ becomes (Words ws)) →
+  pub stands-typed : (line byte : ℕ) (becomes : Contents → Contents) → ((q : Queue) → waiting_in (with_input (λ bytes. queued bytes byte) q) ≡ becomes (waiting_in q)) → ((ws : List ℕ) → Words ws ≡ becomes (Words ws)) →
       StandsFor (with_typed line byte v) words (record s { objects = map_values (taking line becomes) s.objects })
   stands-typed line byte becomes agree kept_words = record {
     levels = stands.levels;
@@ -125,7 +125,7 @@ module _ (v : Stored) (words : List ℕ) (s : State) (stands : StandsFor v words
     access = stands.access;
   }
     where
-      contents : (q : Queue) (x : Option Extent) (b : Bool) → contents_in words (if b then with_input (λ bytes. kept bytes byte) q else q) x ≡ (if b then becomes (contents_in words q x) else contents_in words q x)
+      contents : (q : Queue) (x : Option Extent) (b : Bool) → contents_in words (if b then with_input (λ bytes. queued bytes byte) q else q) x ≡ (if b then becomes (contents_in words q x) else contents_in words q x)
       contents q x false = refl
       contents q None true = agree q
       contents q (Some x) true = kept_words _
@@ -174,11 +174,11 @@ module _ (v : Stored) (words : List ℕ) (s : State) (stands : StandsFor v words
   }
 
   -- a word of a segment is written
-  pub stands-written : (now : List ℕ) (path : Path) (i value : ℕ) → objects_of v now ≡ written path i value (objects_of v words) → StandsFor v now (record s { objects = written path i value s.objects })
+  pub stands-written : (now : List ℕ) (path : Path) (i value : ℕ) → objects_of v now ≡ word_written path i value (objects_of v words) → StandsFor v now (record s { objects = word_written path i value s.objects })
   stands-written now path i value is = record {
     levels = stands.levels;
     lines = stands.lines;
-    objects = is ∙ ap (written path i value) stands.objects;
+    objects = is ∙ ap (word_written path i value) stands.objects;
     access = stands.access;
   }
 

@@ -11,7 +11,7 @@ use Rattle.std.specs.FinMap.{IsAntisymmetric}
 use Rattle.std.proofs.lemmas.Bool.Decides.{nat_tests}
 use Rattle.std.proofs.Math.Bool.{and-false}
 use Rattle.std.proofs.lemmas.List.Folds.{list_any-append}
-use Rattle.bk_object.specs.Modes.{Mode, Read, Execute, Write, Append, has, mode_number}
+use Rattle.bk_object.specs.Modes.{AccessMode, Read, Execute, Write, Append, has, mode_number}
 use Rattle.bk_object.specs.declared.modes.Modes.{Modes}
 use Rattle.bk_object.specs.Rows.{most_subjects}
 use Rattle.bk_path.specs.Paths.{Path, path_cmp, is_same}
@@ -27,7 +27,7 @@ use Rattle.bk_store.specs.Stored.{all_modes, triples_of}
 use Rattle.bk_store.specs.Joined.{is_held, below, all_triples, access_of}
 
 -- when two triples tie
-tie : (s t : ℕ) (p q : Path) (x y : Mode) → eq_by_cmp triple_cmp (s, p, x) (t, q, y) ≡ ((s == t) && (is_same p q && (mode_number x == mode_number y)))
+tie : (s t : ℕ) (p q : Path) (x y : AccessMode) → eq_by_cmp triple_cmp (s, p, x) (t, q, y) ≡ ((s == t) && (is_same p q && (mode_number x == mode_number y)))
 tie s t p q x y =
     sym (tied_then (nat_cmp s t) (ordering_then (path_cmp p q) (nat_cmp (mode_number x) (mode_number y))))
     ∙ (λ i. unsigned_tied s t i && (sym (tied_then (path_cmp p q) (nat_cmp (mode_number x) (mode_number y))) ∙ (λ j. ties-same p q j && unsigned_tied (mode_number x) (mode_number y) j)) i)
@@ -75,14 +75,14 @@ any_right f c (x ∷ xs) = ap (λ b. (f x && c) || b) (any_right f c xs) ∙ spr
     spread a b c = grind arith
 
 -- one of the four modes is the one that is asked for
-any_mode : (x : Mode) (t u : Bool) → list_any (λ y. t && (u && (mode_number x == mode_number y))) all_modes ≡ (t && u)
+any_mode : (x : AccessMode) (t u : Bool) → list_any (λ y. t && (u && (mode_number x == mode_number y))) all_modes ≡ (t && u)
 any_mode Read t u = grind arith
 any_mode Execute t u = grind arith
 any_mode Write t u = grind arith
 any_mode Append t u = grind arith
 
 -- of the modes of a set, one is the one that is asked for
-any_of_set : (m : Modes) (t u : Bool) (x : Mode) → list_any (λ y. has m y && (t && (u && (mode_number x == mode_number y)))) all_modes ≡ ((t && u) && has m x)
+any_of_set : (m : Modes) (t u : Bool) (x : AccessMode) → list_any (λ y. has m y && (t && (u && (mode_number x == mode_number y)))) all_modes ≡ ((t && u) && has m x)
 any_of_set m t u Read = one (has m Read) (has m Execute) (has m Write) (has m Append) t u
   where
     one : (a b c d t u : Bool) → ((a && (t && (u && true))) || ((b && (t && (u && false))) || ((c && (t && (u && false))) || ((d && (t && (u && false))) || false)))) ≡ ((t && u) && a)
@@ -115,7 +115,7 @@ in_below (suc n) s h = by (s == n) refl (in_below n s)
 pub subject_in : (s : ℕ) → s < most_subjects → in_range s ≡ true
 subject_in s h = in_below most_subjects s h
 
-any_triples : (tree : Objects) (s : ℕ) (p : Path) (x : Mode) → list_any (eq_by_cmp triple_cmp (s, p, x)) (all_triples tree) ≡ (in_range s && is_some (finite.get tree p))
+any_triples : (tree : Objects) (s : ℕ) (p : Path) (x : AccessMode) → list_any (eq_by_cmp triple_cmp (s, p, x)) (all_triples tree) ≡ (in_range s && is_some (finite.get tree p))
 any_triples tree s p x =
     any_flat (eq_by_cmp triple_cmp (s, p, x)) (λ t. flat_map (λ q. map (λ y. (t, q, y)) all_modes) (finite.keys tree)) (below most_subjects)
     ∙ any_same (λ t. list_any (eq_by_cmp triple_cmp (s, p, x)) (flat_map (λ q. map (λ y. (t, q, y)) all_modes) (finite.keys tree))) (λ t. (s == t) && is_some (finite.get tree p)) (below most_subjects) of_subject
@@ -135,7 +135,7 @@ any_triples tree s p x =
         ∙ ap (λ b. (s == t) && b) (any_same (is_same p) (eq_by_cmp path_cmp p) (finite.keys tree) (λ q. sym (ties-same p q)) ∙ sym (finite.contains_key-keys tree p))
 
 -- a subject's triple stands in the set exactly where the subject holds the object by the mode
-pub member : (tree : Objects) (held : Held) (s : ℕ) (p : Path) (x : Mode) → set.contains (access_of tree held) (s, p, x) ≡ (in_range s && is_held tree held (s, p, x))
+pub member : (tree : Objects) (held : Held) (s : ℕ) (p : Path) (x : AccessMode) → set.contains (access_of tree held) (s, p, x) ≡ (in_range s && is_held tree held (s, p, x))
 member tree held s p x =
     set.contains-retain (set.from_list (all_triples tree)) (is_held tree held) (s, p, x) (λ u e. alike (is_held tree held) (s, p, x) u e)
     ∙ ap (λ b. b && is_held tree held (s, p, x)) (set.contains-from_list triple_total (all_triples tree) (s, p, x) ∙ any_triples tree s p x)
@@ -148,7 +148,7 @@ member tree held s p x =
     by false o = refl
 
 -- which triples the modes of a set make
-pub triples_there : (subject : ℕ) (path : Path) (modes : Modes) (s : ℕ) (p : Path) (x : Mode) →
+pub triples_there : (subject : ℕ) (path : Path) (modes : Modes) (s : ℕ) (p : Path) (x : AccessMode) →
     list_any (eq_by_cmp triple_cmp (s, p, x)) (triples_of subject path modes) ≡ (((s == subject) && is_same p path) && has modes x)
 triples_there subject path modes s p x =
     any_map (eq_by_cmp triple_cmp (s, p, x)) (λ y. (subject, path, y)) (filter (has modes) all_modes)

@@ -18,7 +18,7 @@ use Rattle.bk_state.specs.Start.{is_line}
 use Rattle.bk_tree.specs.declared.place.Placed.{Placed}
 use Rattle.bk_tree.specs.Objects.{Objects}
 use Rattle.bk_state.specs.QueueCalls.{line_of}
-use Rattle.bk_store.specs.Stored.{Waiting, OfMailbox, OfLine, changed_at, kept, typing, with_input, with_mail, with_queue, with_typed}
+use Rattle.bk_store.specs.Stored.{Waiting, OfMailbox, OfLine, changed_at, queued, typing, with_input, with_mail, with_queue, with_typed}
 use Rattle.bk_store.specs.Joined.{Tables, access_of, entries_of, entry_of, no_mail, queue_at, store_of, IsStore}
 use Rattle.bk_store.proofs.Entries.{as_stored, get-entry, one-changed}
 
@@ -142,7 +142,7 @@ module _ (lines : ℕ) (tree : Objects) (held : Held) (tables : Tables) (keeps :
             ∙ sym (get-map_values path_cmp (typing line byte) (entries_of tree tables) q ∙ ap (option_map (typing line byte)) (get-entry tree tables q)))
 
     abbrev pub with_byte : Tables
-    with_byte = with_inputs tables (slice_set tables.inputs line (kept (slice_index_or tables.inputs line []) byte))
+    with_byte = with_inputs tables (slice_set tables.inputs line (queued (slice_index_or tables.inputs line []) byte))
 
     pub typed-inside : line < lines → store_of levels lines tree held with_byte ≡ with_typed line byte (store_of levels lines tree held tables)
     typed-inside small = typed with_byte (λ q x is. (λ i. record { facts = x.facts; extent = finite.get tables.frames.extents x.slot; queue = each x.slot x.facts.kind i }))
@@ -150,29 +150,29 @@ module _ (lines : ℕ) (tree : Objects) (held : Held) (tables : Tables) (keeps :
         inside : line < length tables.inputs
         inside = omega (arith, keeps.queues.inputs, small)
 
-        each : (slot : ℕ) (k : Kind) → queue_at with_byte slot k ≡ (if is_line line k then with_input (λ bytes. kept bytes byte) (queue_at tables slot k) else queue_at tables slot k)
+        each : (slot : ℕ) (k : Kind) → queue_at with_byte slot k ≡ (if is_line line k then with_input (λ bytes. queued bytes byte) (queue_at tables slot k) else queue_at tables slot k)
         each slot Directory = refl
         each slot Segment = refl
         each slot Mailbox = refl
         each slot (Line m) = by (m == line) refl
           where
-            by : (b : Bool) → (m == line) ≡ b → queue_at with_byte slot (Line m) ≡ (if b then with_input (λ bytes. kept bytes byte) (queue_at tables slot (Line m)) else queue_at tables slot (Line m))
+            by : (b : Bool) → (m == line) ≡ b → queue_at with_byte slot (Line m) ≡ (if b then with_input (λ bytes. queued bytes byte) (queue_at tables slot (Line m)) else queue_at tables slot (Line m))
             by true e =
                 let same : m ≡ line = grind (arith, nat_tests, e) in
-                ap OfLine (ap (λ k. slice_index_or (slice_set tables.inputs line (kept (slice_index_or tables.inputs line []) byte)) k []) same
-                ∙ get_or-set_same tables.inputs line (kept (slice_index_or tables.inputs line []) byte) [] inside
-                ∙ ap (λ k. kept (slice_index_or tables.inputs k []) byte) (sym same))
-            by false e = ap OfLine (get_or-set_other tables.inputs line m (kept (slice_index_or tables.inputs line []) byte) [] (grind (arith, nat_tests, e)))
+                ap OfLine (ap (λ k. slice_index_or (slice_set tables.inputs line (queued (slice_index_or tables.inputs line []) byte)) k []) same
+                ∙ get_or-set_same tables.inputs line (queued (slice_index_or tables.inputs line []) byte) [] inside
+                ∙ ap (λ k. queued (slice_index_or tables.inputs k []) byte) (sym same))
+            by false e = ap OfLine (get_or-set_other tables.inputs line m (queued (slice_index_or tables.inputs line []) byte) [] (grind (arith, nat_tests, e)))
 
     pub typed-outside : lines ≤ line → store_of levels lines tree held tables ≡ with_typed line byte (store_of levels lines tree held tables)
     typed-outside large = typed tables (λ q x is. (λ i. record { facts = x.facts; extent = finite.get tables.frames.extents x.slot; queue = each x.slot x.facts.kind (λ m kind. keeps.queues.within q x m is kind) i }))
       where
-        each : (slot : ℕ) (k : Kind) → ((m : ℕ) → k ≡ Line m → m < lines) → queue_at tables slot k ≡ (if is_line line k then with_input (λ bytes. kept bytes byte) (queue_at tables slot k) else queue_at tables slot k)
+        each : (slot : ℕ) (k : Kind) → ((m : ℕ) → k ≡ Line m → m < lines) → queue_at tables slot k ≡ (if is_line line k then with_input (λ bytes. queued bytes byte) (queue_at tables slot k) else queue_at tables slot k)
         each slot Directory within = refl
         each slot Segment within = refl
         each slot Mailbox within = refl
         each slot (Line m) within = by (m == line) refl
           where
-            by : (b : Bool) → (m == line) ≡ b → queue_at tables slot (Line m) ≡ (if b then with_input (λ bytes. kept bytes byte) (queue_at tables slot (Line m)) else queue_at tables slot (Line m))
+            by : (b : Bool) → (m == line) ≡ b → queue_at tables slot (Line m) ≡ (if b then with_input (λ bytes. queued bytes byte) (queue_at tables slot (Line m)) else queue_at tables slot (Line m))
             by true e = let same : m ≡ line = grind (arith, nat_tests, e) in absurd (omega (arith, same, large, within m refl))
             by false e = refl

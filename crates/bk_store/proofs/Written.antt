@@ -18,7 +18,7 @@ use Rattle.bk_state.specs.State.{Object, Words}
 use Rattle.bk_state.specs.Contents.{with_word}
 use Rattle.bk_tree.specs.declared.place.Placed.{Placed}
 use Rattle.bk_tree.specs.Objects.{Objects, IsAt}
-use Rattle.bk_store.specs.Stored.{Entry, Queue, contents_in, object_of, objects_of, word_at, word_of, written, written_by}
+use Rattle.bk_store.specs.Stored.{Entry, Queue, contents_in, object_of, objects_of, word_at, word_of, word_written, word_written_by}
 use Rattle.bk_store.specs.Joined.{Tables, blocks_of, entries_of, entry_of, queue_at, store_of, IsStore}
 use Rattle.bk_object.specs.declared.Facts.{Facts}
 use Rattle.bk_object.specs.declared.kind.Kind.{Kind}
@@ -79,13 +79,13 @@ module _ (levels : List Level) (lines : ℕ) (tree : Objects) (held : Held) (tab
       by None is = refl
       by (Some f) is = ap Words (other_words f (keeps.extents.apart.apart a.slot slot e f stands is differ))
 
-  pub objects-written : objects_of (store_of levels lines tree held tables) after ≡ written path i v (objects_of (store_of levels lines tree held tables) words)
+  pub objects-written : objects_of (store_of levels lines tree held tables) after ≡ word_written path i v (objects_of (store_of levels lines tree held tables) words)
   objects-written =
       finite.same_map path_total path_apart _ _ (λ q.
       get-object levels lines tree held tables after q
       ∙ by q (is_same q path) refl (finite.get tree q) refl
       ∙ sym (finite.get-insert path_total (objects_of (store_of levels lines tree held tables) words) path changed q ∙ (λ i. cond (ties-same q path i) (Some changed) (get-object levels lines tree held tables words q i))))
-      ∙ sym (ap (written_by (objects_of (store_of levels lines tree held tables) words) path i v) (get-object levels lines tree held tables words path ∙ ap (option_map (placed_object tables words)) at))
+      ∙ sym (ap (word_written_by (objects_of (store_of levels lines tree held tables) words) path i v) (get-object levels lines tree held tables words path ∙ ap (option_map (placed_object tables words)) at))
     where
       by : (q : Path) (b : Bool) → is_same q path ≡ b → (o : Option Placed) → finite.get tree q ≡ o →
           option_map (placed_object tables after) o ≡ cond b (Some changed) (option_map (placed_object tables words) o)

@@ -8,14 +8,17 @@ use Rattle.bk_object.specs.contracts.Facts as facts
 use Rattle.bk_object.specs.declared.Facts.{Facts}
 use Rattle.bk_store.specs.Stored.{Queue, NoQueue, OfMailbox, OfLine, Entry}
 
+-- the parts of a queue: none, those of a mailbox, or the bytes of a line
 abbrev Parts : Type 0
 Parts = Unit {0} ⊎ ((List (List ℕ) × ℕ) ⊎ List ℕ)
 
+-- a queue taken apart
 abbrev parts_of : Queue → Parts
 parts_of NoQueue = inl tt
 parts_of (OfMailbox waiting) = inr (inl (waiting.messages, waiting.lost))
 parts_of (OfLine bytes) = inr (inr bytes)
 
+-- a queue put together
 abbrev queue_of : Parts → Queue
 queue_of (inl nothing) = NoQueue
 queue_of (inr (inl pair)) = OfMailbox (record { messages = pair.0; lost = pair.1 })

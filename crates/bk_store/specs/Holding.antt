@@ -2,13 +2,13 @@
 use Rattle.std.specs.Prelude.{ℕ, not, Bool, List, [], map, filter, ◌==◌, ◌&&◌, ◌∷◌}
 use Rattle.std.specs.FinSet as set
 use Rattle.bk_object.specs.declared.modes.Modes.{Modes}
-use Rattle.bk_object.specs.Modes.{Mode, Read, Execute, Write, Append, has, modes_where}
+use Rattle.bk_object.specs.Modes.{AccessMode, Read, Execute, Write, Append, has, modes_where}
 use Rattle.bk_path.specs.Paths.{Path, is_same}
 use Rattle.bk_state.specs.State.{Triple}
 use Rattle.bk_store.specs.Entries.{Stored}
 
 -- the subject holds the object by the mode now
-abbrev pub holds : Stored → ℕ → Path → Mode → Bool
+abbrev pub holds : Stored → ℕ → Path → AccessMode → Bool
 holds v subject path mode = set.contains v.access (subject, path, mode)
 
 -- the modes by which the subject holds the object now
@@ -16,7 +16,7 @@ abbrev pub modes_held : Stored → ℕ → Path → Modes
 modes_held v subject path = modes_where (holds v subject path)
 
 -- the four modes
-abbrev pub all_modes : List Mode
+abbrev pub all_modes : List AccessMode
 all_modes = Read ∷ Execute ∷ Write ∷ Append ∷ []
 
 -- the triples of a subject and an object, one for each of the modes

@@ -16,7 +16,7 @@ use Rattle.bk_object.specs.declared.kind.Kind.TheVariants.{Directory, Segment, M
 use Rattle.bk_object.specs.Limits.{largest_quota, words_of_block}
 use Rattle.bk_object.specs.Modes.{no_modes}
 use Rattle.bk_object.specs.Rows.{most_subjects}
-use Rattle.bk_core.specs.Memory.{blocks_of_core}
+use Rattle.bk_core.specs.Memory.{blocks_of_core, kernel_blocks}
 use Rattle.bk_frames.specs.Extents.{Extent, Standing, sizes_of, taken_in, IsApart, AreApart}
 use Rattle.bk_queue.specs.Queues.{Mail, Typed}
 use Rattle.bk_tree.specs.declared.place.Placed.{Placed}
@@ -144,10 +144,6 @@ with_new_input (Line n) inputs = slice_set inputs n []
 -- the blocks that an object's words take
 abbrev pub size_of : Facts → ℕ
 size_of facts = or_zero (segment_blocks facts)
-
--- so many blocks of core are the kernel's; the others are as many as the largest quota
-abbrev pub kernel_blocks : ℕ
-kernel_blocks = 64
 
 -- a segment has its blocks at its slot, and nothing stands for all else; segments stand in the blocks of core above
 -- the kernel's, apart

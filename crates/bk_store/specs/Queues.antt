@@ -6,7 +6,7 @@ use Rattle.bk_object.specs.Limits.{most_messages}
 use Rattle.bk_path.specs.Paths.{Path}
 use Rattle.bk_queue.specs.declared.mailbox.Message.{Message}
 use Rattle.bk_queue.specs.Queues.{counted_on}
-use Rattle.bk_state.specs.Contents.{kept}
+use Rattle.bk_state.specs.Contents.{queued}
 use Rattle.bk_state.specs.Start.{is_line}
 use Rattle.bk_store.specs.Entries.{Waiting, Queue, Entry, Stored, NoQueue, OfMailbox, OfLine}
 use Rattle.bk_store.specs.Changes.{changed_at}
@@ -110,7 +110,7 @@ with_input change (OfLine bytes) = OfLine (change bytes)
 
 -- the object of that line takes the byte
 abbrev pub typing : (line byte : ℕ) → Entry → Entry
-typing line byte e = record e { queue = if is_line line e.facts.kind then with_input (λ bytes. kept bytes byte) e.queue else e.queue }
+typing line byte e = record e { queue = if is_line line e.facts.kind then with_input (λ bytes. queued bytes byte) e.queue else e.queue }
 
 -- a byte is typed on the line; where no object has it the byte is lost
 abbrev pub with_typed : (line byte : ℕ) → Stored → Stored

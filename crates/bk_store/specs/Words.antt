@@ -18,10 +18,10 @@ word_at i None = 0
 word_at i (Some object) = word_of i object.contents
 
 -- the objects once the word of the object that is there is this one
-abbrev pub written_by : finite.FinMap path_cmp Object → Path → (i value : ℕ) → Option Object → finite.FinMap path_cmp Object
-written_by objects path i value None = objects
-written_by objects path i value (Some object) = finite.insert objects path (record { facts = object.facts; contents = with_word i value object.contents })
+abbrev pub word_written_by : finite.FinMap path_cmp Object → Path → (i value : ℕ) → Option Object → finite.FinMap path_cmp Object
+word_written_by objects path i value None = objects
+word_written_by objects path i value (Some object) = finite.insert objects path (record { facts = object.facts; contents = with_word i value object.contents })
 
 -- the objects once the word with that number of the segment at the path is this one
-abbrev pub written : Path → (i value : ℕ) → finite.FinMap path_cmp Object → finite.FinMap path_cmp Object
-written path i value objects = written_by objects path i value (finite.get objects path)
+abbrev pub word_written : Path → (i value : ℕ) → finite.FinMap path_cmp Object → finite.FinMap path_cmp Object
+word_written path i value objects = word_written_by objects path i value (finite.get objects path)

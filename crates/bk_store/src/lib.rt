@@ -15,4 +15,4 @@ mod store;
 mod tests;
 
 pub use laws::law_example;
-pub use store::{KERNEL_BLOCKS, Store};
+pub use store::Store;

@@ -2,7 +2,7 @@
 
 ghost use Rattle.std.specs.Prelude.{◌≡◌, ◌<◌, ℕ, [], length, map, replicate, slice_set, slice_index_or, IfOk};
 ghost use Rattle.bk_object.specs.declared.kind.Kind.TheVariants.{Line};
-ghost use Rattle.bk_store.specs.Stored.{first_of, has_place, kept, oldest, received, sent, without_first};
+ghost use Rattle.bk_store.specs.Stored.{first_of, has_place, queued, oldest, received, sent, without_first};
 ghost use Rattle.bk_store.specs.Joined.{bytes_of, no_mail, waiting_of, with_new_input};
 
 use bk_base::NoMemory;
@@ -75,14 +75,14 @@ fn take(mailbox: &mut Mailbox) -> Option<Message>
 // The byte is typed on the line.
 pub(crate) fn type_at(inputs: &mut Vec<LineIn>, line: u8, byte: u8)
     requires { line < length inputs.old.items }
-    ensures { map bytes_of inputs.new.items ≡ slice_set (map bytes_of inputs.old.items) line (kept (slice_index_or (map bytes_of inputs.old.items) line []) byte) }
+    ensures { map bytes_of inputs.new.items ≡ slice_set (map bytes_of inputs.old.items) line (queued (slice_index_or (map bytes_of inputs.old.items) line []) byte) }
 {
     type_on(&mut inputs[line as usize], byte);
 }
 
 // The byte waits on the line, and is lost where 64 wait.
 fn type_on(input: &mut LineIn, byte: u8)
-    ensures { bytes_of input.new ≡ kept (bytes_of input.old) byte }
+    ensures { bytes_of input.new ≡ queued (bytes_of input.old) byte }
 {
     let _ = input.put(byte);
 }

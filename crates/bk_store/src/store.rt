@@ -14,9 +14,10 @@ ghost use Rattle.bk_state.specs.QueueCalls as queue_calls;
 ghost use Rattle.bk_tree.specs.Kept.{HasBlocks, IsFit};
 ghost use Rattle.bk_store.specs.Stored.{begun, byte_in, cell_of, extent_in, facts_in, has_place_in, level_number, message_in, modes_held, objects_of};
 ghost use Rattle.bk_store.specs.Stored.{with_given, with_held, with_message, with_rescinded, with_typed, without_byte, without_group};
-ghost use Rattle.bk_store.specs.Stored.{without_held, without_message, word_at, written, Fits, HasDirectory, HasLine, HasMailbox, HasOffset};
+ghost use Rattle.bk_store.specs.Stored.{without_held, without_message, word_at, word_written, Fits, HasDirectory, HasLine, HasMailbox, HasOffset};
 ghost use Rattle.bk_store.specs.Stored.{HasSegment, IsCreated, IsFreeLine, IsOneLess, IsThere};
-ghost use Rattle.bk_store.specs.Joined.{blocks_of, kernel_blocks, or_zero, with_some, zeros_of, AreExtentsApart, HaveKinds};
+ghost use Rattle.bk_core.specs.Memory.{kernel_blocks};
+ghost use Rattle.bk_store.specs.Joined.{blocks_of, or_zero, with_some, zeros_of, AreExtentsApart, HaveKinds};
 
 use crate::queues::{
     clear_input, clear_mailbox, empty_inputs, empty_mailboxes, put_at, take_at, take_typed, type_at,
@@ -24,7 +25,7 @@ use crate::queues::{
 use bitflags::Flags;
 use bk_access::Access;
 use bk_base::NoMemory;
-use bk_core::{BLOCKS, BYTES_OF_BLOCK, Core};
+use bk_core::{BLOCKS, BYTES_OF_BLOCK, Core, KERNEL_BLOCKS};
 use bk_frames::Frames;
 use bk_level::{Level, LevelTable};
 use bk_object::{Facts, Kind, Modes, Row, Slot};
@@ -34,9 +35,6 @@ use bk_quota::Cell;
 use bk_tree::{Tree, TreeNo};
 use std::alloc::Global;
 use std::marker::Model;
-
-/// How many blocks of core, the first ones, are the kernel's.
-pub const KERNEL_BLOCKS: u32 = 64;
 
 /// The objects of a system with their contents, what each grants to whom, and the current access set.
 ///
@@ -291,7 +289,7 @@ impl Store {
     pub fn write_word(&self, core: &mut Core, path: Path, offset: u16, value: u16)
         requires even { offset % 2 ≡ 0 }
         requires inside { HasOffset self.now path offset }
-        ensures words { objects_of self.now core.new.words ≡ written path (offset / 2) value (objects_of self.now core.old.words) }
+        ensures words { objects_of self.now core.new.words ≡ word_written path (offset / 2) value (objects_of self.now core.old.words) }
         ensures kernel { take (words_of_block * kernel_blocks) core.new.words ≡ take (words_of_block * kernel_blocks) core.old.words }
     {
         let slot = self.tree.find(path).unwrap();

@@ -21,7 +21,7 @@ use Rattle.bk_state.specs.Answers.{Called, called}
 use Rattle.bk_system.specs.declared.at.At.{At}
 use Rattle.bk_system.specs.Space.{space_of}
 use Rattle.bk_system.specs.Step.{Step}
-use Rattle.bk_system.specs.Turn.{stored_in, written_by, written, pushed, with_pushes, byte_item, settled, fault_number, is_reflected, less, faulted}
+use Rattle.bk_system.specs.Turn.{stored_in, written_by, written, with_push, with_pushes, byte_item, settled, fault_number, is_reflected, less, faulted}
 use Rattle.bk_system.specs.Turn.{ended, executed, turn_by, turn_of_process, turn_of}
 use Rattle.bk_system.specs.Arrivals.{arrived}
 use Rattle.bk_system.specs.Event.{Event as Happening, Arrive, Turn, EndSlot, slot_ended, happens, all_happen}
@@ -48,7 +48,7 @@ applied-fixed windows v (Some w) = written-fixed windows v w
 
 with_pushes-fixed : (v : State) (p : Process) → (with_pushes v p).fixed ≡ v.fixed
 with_pushes-fixed v p =
-    written-fixed p.windows (pushed p.windows (less p.registers.supervisor 2) _ v) _ ∙ written-fixed p.windows v _
+    written-fixed p.windows (with_push p.windows (less p.registers.supervisor 2) _ v) _ ∙ written-fixed p.windows v _
 
 -- ---- a turn
 

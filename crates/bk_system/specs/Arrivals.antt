@@ -2,7 +2,7 @@
 use Rattle.std.specs.Prelude.{ℕ, List, fold, if◌then◌else◌}
 use Rattle.bk_base.specs.Maps.{map_values}
 use Rattle.bk_state.specs.State.{State, Object, Contents, Children, Words, Messages, Typed}
-use Rattle.bk_state.specs.Contents.{kept}
+use Rattle.bk_state.specs.Contents.{queued}
 use Rattle.bk_state.specs.Start.{is_line}
 
 -- a line's contents after the bytes, one after another
@@ -10,7 +10,7 @@ abbrev pub typed : List ℕ → Contents → Contents
 typed bytes Children = Children
 typed bytes (Words words) = Words words
 typed bytes (Messages waiting lost) = Messages waiting lost
-typed bytes (Typed waiting) = Typed (fold kept waiting bytes)
+typed bytes (Typed waiting) = Typed (fold queued waiting bytes)
 
 -- the object of that line takes the bytes
 abbrev pub taking : ℕ → List ℕ → Object → Object

@@ -21,6 +21,7 @@ resumed Running = Running
 resumed Paused = Running
 resumed (Stopped cause) = Stopped cause
 
+-- a process whose pause ends
 abbrev pub with_resumed : Process → Process
 with_resumed p = record p { status = resumed p.status }
 

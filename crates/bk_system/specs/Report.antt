@@ -8,6 +8,7 @@ use Rattle.bk_system.specs.declared.script.TypedAt.{TypedAt}
 use Rattle.bk_system.specs.Step.{Step}
 use Rattle.bk_system.specs.Slot.{run_of}
 
+-- the record of a call
 abbrev pub is_call : ReportItem → Bool
 is_call (Call slot turn subject number regs answer cause) = true
 is_call (Fault slot turn subject cause pc entered) = false

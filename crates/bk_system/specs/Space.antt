@@ -7,6 +7,7 @@ use Rattle.bk_path.specs.Paths.{Path}
 use Rattle.bk_object.specs.Modes.{Read, Execute, Write}
 use Rattle.bk_state.specs.State.{Contents, Children, Words, Messages, Typed, Object, State, find, holds}
 
+-- a page that is not there
 abbrev pub no_page : Page
 no_page = record { rights = rights.None; words = [] }
 
@@ -18,6 +19,7 @@ rights_by true reads executes true = rights.Write
 rights_by true true executes false = rights.Read
 rights_by true false executes false = rights.None
 
+-- a window of data space: instruction space and data space take turns, eight windows each
 abbrev pub is_data : (window : ℕ) → Bool
 is_data window = window / 8 % 2 == 1
 
@@ -38,10 +40,12 @@ page_from rights (Words words) = page_with rights words
 page_from rights (Messages waiting lost) = no_page
 page_from rights (Typed bytes) = no_page
 
+-- the page of an object, if there is one
 abbrev pub page_by : Rights → Option Object → Page
 page_by rights None = no_page
 page_by rights (Some o) = page_from rights o.contents
 
+-- the page of a window, by the path that it shows
 abbrev pub page_shown : State → ℕ → ℕ → Option (Option Path) → Page
 page_shown v s window (Some (Some p)) = page_by (rights_of v s window p) (find v p)
 page_shown v s window (Some None) = no_page

@@ -3,6 +3,7 @@ use Rattle.std.specs.Prelude.{ℕ, ◌+◌, List, [], ◌++◌}
 use Rattle.bk_report.specs.declared.ReportItem.{ReportItem}
 use Rattle.bk_state.specs.State.{State}
 
+-- what something comes to: the state after it, what it tells, and the references that it made
 pub record Step : Type 0 where
   pub state : State
   pub items : List ReportItem

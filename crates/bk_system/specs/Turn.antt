@@ -1,12 +1,12 @@
 -- A turn: one instruction of a subject, and the kernel call or the reflected fault that it ends as.
-use Rattle.std.specs.Prelude.{ℕ, ◌+◌, ◌-◌, ◌*◌, ◌/◌, ◌%◌, ◌^◌, Bool, true, false, not, ◌&&◌, List, [], ◌∷◌, Option, Some, None, ◌==◌, slice_get, slice_index, slice_set, Result, Ok, Err, if◌then◌else◌}
-use Rattle.bk_space.specs.AddrSpace.{Write, page_number, offset_of, write_at, applied}
+use Rattle.std.specs.Prelude.{ℕ, ◌+◌, ◌-◌, ◌*◌, ◌/◌, ◌%◌, ◌^◌, ◌==◌, Bool, true, false, not, ◌&&◌, if◌then◌else◌}
+use Rattle.std.specs.Prelude.{List, [], ◌∷◌, Option, Some, None, slice_get, slice_index, slice_set, Result, Ok, Err}
+use Rattle.bk_space.specs.AddrSpace.{Write, page_number, put, write_at, applied}
 use Rattle.bk_space.specs.Status.{status_of, word_of}
 use Rattle.bk_space.specs.declared.reference.Mode.{Mode}
 use Rattle.bk_space.specs.declared.reference.Mode.TheVariants.{Supervisor, User}
 use Rattle.bk_space.specs.declared.reference.Space.TheVariants.{D}
-use Rattle.bk_space.specs.declared.reference.Width.{Width}
-use Rattle.bk_space.specs.declared.reference.Width.TheVariants.{Word, Byte}
+use Rattle.bk_space.specs.declared.reference.Width.TheVariants.{Word}
 use Rattle.bk_space.specs.declared.reference.Abort.{Abort}
 use Rattle.bk_space.specs.declared.cause.Cause as fault
 use Rattle.bk_space.specs.declared.cause.Cause.TheVariants as faults
@@ -30,19 +30,10 @@ use Rattle.bk_system.specs.Step.{Step, nothing}
 
 -- ---- the write of an instruction
 
--- one byte of a word becomes another; the low byte stands at the even address
-abbrev pub with_byte : (addr byte word : ℕ) → ℕ
-with_byte addr byte word = if addr % 2 == 0 then word / 2 ^ 8 * 2 ^ 8 + byte else byte * 2 ^ 8 + word % 2 ^ 8
-
--- the words of a segment after a write of a word or of a byte
-abbrev pub stored : Width → (addr value : ℕ) → (words : List ℕ) → List ℕ
-stored Word addr value words = slice_set words (offset_of addr / 2) value
-stored Byte addr value words = slice_set words (offset_of addr / 2) (with_byte addr value (slice_index words (offset_of addr / 2)))
-
 -- of contents that are words
 abbrev pub stored_in : Write → Contents → Contents
 stored_in w Children = Children
-stored_in w (Words words) = Words (stored w.width w.addr w.value words)
+stored_in w (Words words) = Words (put w.width w.addr w.value words)
 stored_in w (Messages waiting lost) = Messages waiting lost
 stored_in w (Typed bytes) = Typed bytes
 
@@ -117,8 +108,8 @@ is_reflected v s p entry =
     && is_writable v s p.windows (less p.registers.supervisor 2) && is_writable v s p.windows (less p.registers.supervisor 4)
 
 -- a word is written in supervisor D space
-abbrev pub pushed : (windows : List (Option Path)) → (addr value : ℕ) → State → State
-pushed windows addr value v = written windows v (record { mode = Supervisor; space = D; width = Word; addr = addr; value = value })
+abbrev pub with_push : (windows : List (Option Path)) → (addr value : ℕ) → State → State
+with_push windows addr value v = written windows v (record { mode = Supervisor; space = D; width = Word; addr = addr; value = value })
 
 -- the process goes on at its entry, in supervisor mode
 abbrev pub entered : Process → (entry : ℕ) → Process
@@ -129,8 +120,8 @@ entered p entry = record p {
 -- the old status goes to the stack, and then the old program counter
 abbrev pub with_pushes : State → Process → State
 with_pushes v p =
-    pushed p.windows (less p.registers.supervisor 4) p.registers.pc
-    (pushed p.windows (less p.registers.supervisor 2) (word_of p.registers.ps) v)
+    with_push p.windows (less p.registers.supervisor 4) p.registers.pc
+    (with_push p.windows (less p.registers.supervisor 2) (word_of p.registers.ps) v)
 
 -- a fault is reflected, or stops the process
 abbrev pub faulted : State → At → Process → (number references entry : ℕ) → (reflected : Bool) → Step

@@ -6,10 +6,10 @@ ghost use Rattle.bk_tree.specs.Kept.{HasBlocks, HasQuota};
 
 use crate::Store;
 use bk_core::Core;
-use bk_object::{Facts, Kind, MOST_SUBJECTS, Modes};
+use bk_object::{Facts, Kind, LARGEST_QUOTA, MOST_SUBJECTS, Modes};
 use bk_path::Path;
 use bk_queue::Message;
-use bk_quota::{Cell, LARGEST_QUOTA};
+use bk_quota::Cell;
 use bk_tree::TreeNo;
 
 // Creates an object that is no line.

@@ -5,9 +5,9 @@ use super::allowed::{
 };
 use super::plain::{Plain, charge, find, governing, level, new_plain, used};
 use super::{begun, facts_of};
-use crate::{KERNEL_BLOCKS, Store};
+use crate::Store;
 use bitflags::Flags;
-use bk_core::{BLOCKS, Core};
+use bk_core::{BLOCKS, Core, KERNEL_BLOCKS};
 use bk_object::{Kind, MOST_SUBJECTS, Modes, Row};
 use bk_path::Path;
 use bk_queue::Message;

@@ -2,7 +2,7 @@ use Rattle.std.proofs.Common.{◌∙◌, ap, sym, refl, [], ◌∷◌}
 use Rattle.std.specs.Prelude.{not}
 use Rattle.bk_object.specs.Kinds.{is_any_line}
 use Rattle.bk_state.specs.State.{Object, find}
-use Rattle.bk_state.specs.declared.cause.Cause.TheVariants.{Empty}
+use Rattle.bk_state.specs.declared.cause.CallCause.TheVariants.{Empty}
 use Rattle.bk_state.specs.Answers.{outcome, reply, with_values}
 use Rattle.bk_state.specs.Contents.{has_byte, with_contents, without_byte}
 use Rattle.bk_state.specs.QueueCalls.{byte_values, of_contents}

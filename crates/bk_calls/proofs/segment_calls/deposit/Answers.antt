@@ -1,7 +1,7 @@
 use Rattle.std.proofs.Common.{◌≡◌, ◌&&◌, ◌∙◌, ◌*◌, ◌/◌, ap, refl, true, false, slice_index, [], arith}
 use Rattle.std.specs.Prelude.{nat_lt}
 use Rattle.std.proofs.lemmas.Bool.Decides.{nat_tests}
-use Rattle.bk_state.specs.declared.cause.Cause.TheVariants.{TooLong}
+use Rattle.bk_state.specs.declared.cause.CallCause.TheVariants.{TooLong}
 use Rattle.bk_object.specs.Kinds.{is_segment}
 use Rattle.bk_state.specs.Answers.{outcome, reply}
 use Rattle.bk_state.specs.Request.{path_in}

@@ -1,6 +1,6 @@
 use Rattle.std.proofs.Common.{◌∙◌, ap, sym, refl, slice_index, [], ◌∷◌}
 use Rattle.std.specs.Prelude.{is_none}
-use Rattle.bk_state.specs.declared.cause.Cause.TheVariants.{Empty}
+use Rattle.bk_state.specs.declared.cause.CallCause.TheVariants.{Empty}
 use Rattle.bk_state.specs.Answers.{outcome, reply, with_values}
 use Rattle.bk_state.specs.TellingCalls.{entry_values}
 use Rattle.bk_state.specs.Request.{path_in}

@@ -28,7 +28,7 @@ create-requires-clause-parent c = subst (λ p. HasDirectory c.args.store.now (pa
 
 pub create-requires-clause-fit : goal.create-requires-clause-fit
 create-requires-clause-fit c =
-    let number : c.level_number.result ≡ level_number c.args.store.now (parent c.in-Ok.path) = c.level_number.ensures ∙ ap (level_number c.args.store.now) c.parent_of.ensures in
+    let number : c.level_number.result ≡ level_number c.args.store.now (parent c.in-Ok.path) = c.level_number.ensures ∙ ap (level_number c.args.store.now) c.above.ensures in
     subst (λ (f : Facts). IsFit f (level_number c.args.store.now (parent c.in-Ok.path))) (sym c.new_facts-facts.ensures)
     (subst (λ n. IsFit (new_facts (request_in c.args.process.now.registers.general) c.level_number.result) n) number
     (new-fits c.args.caller.now c.args.store.now [] c.args.process.now.registers.general (c.in-Ok.ensures.1 []) c.level_number.result))
@@ -41,7 +41,7 @@ unwrap-requires c =
     let store = c.args.store.now in
     let general = c.args.process.now.registers.general in
     let at = c.in-Ok.ensures.0 in
-    let number : c.level_number.result ≡ level_number store (parent (path_in general)) = c.level_number.ensures ∙ ap (level_number store) (c.parent_of.ensures ∙ ap parent (sym at)) in
+    let number : c.level_number.result ≡ level_number store (parent (path_in general)) = c.level_number.ensures ∙ ap (level_number store) (c.above.ensures ∙ ap parent (sym at)) in
     created-ok c.create.result
     (λ taken. let there = c.create.ensures.taken.0 taken in let free = subst (λ p. is_some (get store.objects p) ≡ false) at (new-free c.args.caller.now store [] general (c.in-Ok.ensures.1 [])) in cc)
     (λ over. (c.create.ensures.quota.0 over).1 (subst (λ p. Fits store p c.new_facts-facts.result) at (subst (λ (f : Facts). Fits store (path_in general) f) (sym c.new_facts-facts.ensures)
@@ -51,7 +51,7 @@ pub returns-in-Ok : goal.returns-in-Ok
 returns-in-Ok c =
     let store = c.args.store.now in
     let general = c.args.process.now.registers.general in
-    let number : c.level_number.result ≡ level_number store (parent c.in-Ok.path) = c.level_number.ensures ∙ ap (level_number store) c.parent_of.ensures in
+    let number : c.level_number.result ≡ level_number store (parent c.in-Ok.path) = c.level_number.ensures ∙ ap (level_number store) c.above.ensures in
     let created : IsCreated store c.create.new.self c.args.core.now.words c.create.new.core.words c.in-Ok.path c.new_facts-facts.result =
     subst (λ r. OnOk r (IsCreated store c.create.new.self c.args.core.now.words c.create.new.core.words c.in-Ok.path c.new_facts-facts.result)) c.unwrap.ensures c.create.ensures.ok in
     rule-made c.args.caller.now store c.create.new.self c.args.core.now.words c.create.new.core.words c.args.process.now c.agree.new.process c.agree.result Create c.in-Ok.ensures.1
