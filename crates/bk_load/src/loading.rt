@@ -8,7 +8,7 @@ ghost use Rattle.bk_image.specs.Objects.{room};
 ghost use Rattle.bk_load.specs.Loading.{with_holds, CanHold, CanTake, HasFront, HasOneMore, IsLoaded};
 ghost use Rattle.bk_load.specs.Kept.{state_loaded, AreKept};
 ghost use Rattle.bk_state.specs.Start.{object_from, state_of};
-ghost use Rattle.bk_store.specs.Stored.{fresh, objects_of, IsCreated};
+ghost use Rattle.bk_store.specs.Stored.{fresh, objects_of, with_held, IsCreated};
 
 use crate::beginning::Beginning;
 use bk_base::NoMemory;
@@ -73,12 +73,19 @@ fn load_objects(store: &mut Store, core: &mut Core, image: &Image)
     }
 }
 
+fn load_hold(store: &mut Store, hold: &Hold)
+    requires { CanHold store.old hold.now }
+    ensures { store.new ≡ with_held hold.now.subject hold.now.path hold.now.modes store.old }
+{
+    store.hold(hold.subject, hold.path, hold.modes);
+}
+
 fn load_holds(store: &mut Store, holds: &[Hold])
     requires { All (CanHold store.old) holds.now }
     ensures { store.new ≡ with_holds holds.now store.old }
 {
     for hold in holds {
-        store.hold(hold.subject, hold.path, hold.modes);
+        load_hold(store, hold);
     }
 }
 

@@ -7,10 +7,10 @@ use Rattle.bk_load.proofs.loading.load_holds.Goals as goal
 pub loop-hold-preserved : goal.loop-hold-preserved
 loop-hold-preserved c = record {
   held =
-      ap (with_holds (drop (c.loop-hold.hold-index + 1) c.args.holds.now)) c.hold.ensures
+      ap (with_holds (drop (c.loop-hold.hold-index + 1) c.args.holds.now)) c.load_hold.ensures
       ∙ held_next c.loop-hold.store c.args.holds.now c.loop-hold.hold-index c.hold-item.result c.loop-hold-test.true c.hold-item.is
       ∙ c.loop-hold.invariant.held;
-  objects = ap (λ v. v.objects) c.hold.ensures ∙ c.loop-hold.invariant.objects;
+  objects = ap (λ v. v.objects) c.load_hold.ensures ∙ c.loop-hold.invariant.objects;
 }
 
 pub returns : goal.returns
