@@ -1,0 +1,6 @@
+pub mod Enough
+pub mod Runs
+pub mod Shorter
+pub mod Steps
+pub mod Waits
+pub mod Working

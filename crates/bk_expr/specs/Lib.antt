@@ -1,0 +1,9 @@
+pub mod Example
+pub mod Expression
+pub mod Names
+pub mod Text
+pub mod Tree
+pub mod Value
+pub mod Waiting
+pub mod Weight
+pub mod Working

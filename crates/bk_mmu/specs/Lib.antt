@@ -1,0 +1,3 @@
+pub mod ActivePages
+pub mod Kept
+pub mod Example
