@@ -1,15 +1,17 @@
 -- What is read leaves fewer bytes than it was read from.
-use Rattle.std.specs.Prelude.{◌≡◌, ℕ, zero, suc, ◌<◌, ◌≤◌, Bool, true, false, ◌==◌, if◌then◌else◌, List, [], ◌∷◌, length, take, drop, Option, Some, None, option_map}
+use Rattle.std.specs.Prelude.{◌≡◌, ℕ, zero, suc, ◌<◌, ◌≤◌, Bool, true, false, ◌==◌, if◌then◌else◌, List, [], ◌∷◌, length, take, drop, Option, Some}
+use Rattle.std.specs.Prelude.{None, option_map}
 use Rattle.std.specs.List.{prefix_len}
 use Rattle.std.proofs.Common.{arith, length-drop, refl}
 use Rattle.std.proofs.lemmas.List.Sums.{prefix_len-le-length}
 use Rattle.bk_expr.specs.declared.reading.Opening.{Opening}
 use Rattle.bk_expr.specs.declared.reading.Opening.TheVariants.{Plus, Minus, Bracket, Quote, Run}
 use Rattle.bk_expr.specs.declared.tree.ExprOp.{ExprOp}
-use Rattle.bk_expr.specs.Expression.{operator, operator_in, operator_at, character_in, term_of_run, opening, term_by, term_in, ends_or, term_within, more_within, term_at, more_at, expression_at}
-use Rattle.bk_expr.specs.Names.{name_of, is_name, number_of, local_of}
-use Rattle.bk_expr.specs.Text.{◌>>=◌, is_of_text, is_blank, is_of_run, past_blanks, run_at, in_run, sign_in, sign_at}
-use Rattle.bk_expr.specs.Tree.{Expression, Number, Negate, Binary}
+use Rattle.bk_expr.specs.Expression.{operator, operator_in, operator_at, character_in, term_of_run, opening, term_by, term_in, ends_or, term_within}
+use Rattle.bk_expr.specs.Expression.{more_within, term_at, more_at, expression_at}
+use Rattle.bk_expr.specs.Names.{is_name, number_of, local_of}
+use Rattle.bk_expr.specs.Text.{◌>>=◌, is_of_text, is_blank, is_of_run, past_blanks, in_run, sign_in, sign_at}
+use Rattle.bk_expr.specs.Tree.{Expression, Number, Binary}
 
 -- what follows has fewer bytes than k
 abbrev pub Under : {X : Type 0} → ℕ → Option (X × List ℕ) → Type 0

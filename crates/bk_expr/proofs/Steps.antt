@@ -1,8 +1,7 @@
 -- One step of the grammar.
-use Rattle.std.specs.Prelude.{◌≡◌, ℕ, Bool, false, List, [], ◌∷◌, Option, Some, None, option_map, refl}
+use Rattle.std.specs.Prelude.{◌≡◌, ℕ, List, [], ◌∷◌, Some, None}
 use Rattle.std.proofs.Common.{ap, ◌∙◌}
 use Rattle.bk_expr.specs.declared.reading.Opening.{Opening}
-use Rattle.bk_expr.specs.declared.reading.Opening.TheVariants.{Run}
 use Rattle.bk_expr.specs.declared.tree.ExprOp.{ExprOp}
 use Rattle.bk_expr.specs.Expression.{operator_at, opening, term_by, term_in, ends_or, term_at, more_at, expression_at}
 use Rattle.bk_expr.specs.Text.{◌>>=◌, past_blanks}

@@ -1,5 +1,5 @@
 -- What waits while an expression is read: one that comes last comes first to the part.
-use Rattle.std.specs.Prelude.{◌≡◌, ℕ, List, [], ◌∷◌, ◌++◌, Option, Some, None, refl}
+use Rattle.std.specs.Prelude.{◌≡◌, List, [], ◌∷◌, ◌++◌, None, refl}
 use Rattle.std.proofs.Common.{ap, ◌∙◌}
 use Rattle.bk_expr.specs.declared.reading.Waiting.{Waiting}
 use Rattle.bk_expr.specs.declared.reading.Waiting.TheVariants.{Negation, Closing, More, Right}

@@ -1,6 +1,6 @@
 -- What waits while an expression is worked out: one that comes last comes first to the part.
 use Rattle.std.specs.Prelude.{◌≡◌, ℕ, ◌+◌, ◌-◌, ◌%◌, ◌^◌, ◌&&◌, Bool, true, false, if◌then◌else◌, List, [], ◌∷◌, ◌++◌, Option, Some, None, refl}
-use Rattle.std.proofs.Common.{ap, ◌∙◌, arith}
+use Rattle.std.proofs.Common.{ap, arith}
 use Rattle.bk_expr.specs.declared.tree.ExprOp.{ExprOp}
 use Rattle.bk_expr.specs.declared.worked.Waiting.{Waiting}
 use Rattle.bk_expr.specs.declared.worked.Worked.{Worked}

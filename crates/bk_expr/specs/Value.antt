@@ -1,5 +1,5 @@
 -- What an expression comes to.
-use Rattle.std.specs.Prelude.{ℕ, ◌+◌, ◌-◌, ◌*◌, ◌/◌, ◌%◌, ◌^◌, ◌==◌, Bool, true, ◌&&◌, if◌then◌else◌, List, Option, Some, None, is_some, option_map, bit_and, bit_or}
+use Rattle.std.specs.Prelude.{ℕ, ◌+◌, ◌-◌, ◌*◌, ◌/◌, ◌%◌, ◌^◌, ◌==◌, Bool, true, ◌&&◌, if◌then◌else◌, List, Option, Some, None, is_some, bit_and, bit_or}
 use Rattle.bk_expr.specs.declared.tree.ExprOp.{ExprOp}
 use Rattle.bk_expr.specs.declared.tree.ExprOp.TheVariants.{Add, Sub, Mul, Div, And, Or}
 use Rattle.bk_expr.specs.declared.worked.Worked.{Worked}

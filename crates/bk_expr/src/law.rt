@@ -47,7 +47,10 @@ pub fn law_example_of_none()
 pub fn law_example_of_values()
     ensures left_to_right { comes_to (codes "1+2*3") ≡ Some (Value 0o11) }
     ensures brackets { comes_to (codes "1+<2*3>") ≡ Some (Value 0o7) }
-    ensures quotient { comes_to (codes "-1/2") ≡ Some (Value 0o77777) }
+    ensures truncated { comes_to (codes "7/2") ≡ Some (Value 0o3) }
+    ensures negative { comes_to (codes "-1") ≡ Some (Value 0o177777) }
+    // A quotient is unsigned.
+    ensures unsigned { comes_to (codes "-1/2") ≡ Some (Value 0o77777) }
     ensures difference { comes_to (codes "2-3") ≡ Some (Value 0o177777) }
     ensures bits { comes_to (codes "A&6!2") ≡ Some (Value 0o6) }
     ensures here { comes_to (codes ".+1$") ≡ Some (Value 0o1100) }

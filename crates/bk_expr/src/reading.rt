@@ -1,4 +1,5 @@
-ghost use Rattle.std.specs.Prelude.{◌≡◌, ◌<◌, ◌≤◌, ◌+◌, ◌*◌, [], ◌∷◌, length, vec_len, IfOk, IfSome, MatchOption, OnOk, option_map};
+ghost use Rattle.std.specs.Prelude.{◌≡◌, ◌<◌, ◌≤◌, ◌+◌, ◌*◌, [], ◌∷◌, length, vec_len, option_map};
+ghost use Rattle.std.specs.Prelude.{IfOk, IfSome, MatchOption, OnOk};
 ghost use Rattle.bk_expr.specs.Expression.{opening, operator, operator_at, character_in, term_of_run, term_at, more_at, expression_at};
 ghost use Rattle.bk_expr.specs.Text.{Front};
 ghost use Rattle.bk_expr.specs.Tree.{Expression, Binary, plain};
@@ -200,15 +201,16 @@ fn binary(alloc: Global, op: ExprOp, left: Expr, right: Expr) -> Result<Expr, No
     })
 }
 
-// Goes on from a part by what waits for it.
-fn went_on<'a>(
+// Resumes what waits, with the part that it waited for.
+fn resume<'a>(
     alloc: Global,
     waiting: &mut Vec<Waiting>,
     one: Waiting,
     expr: Expr,
     text: &'a [u8],
 ) -> Result<Step<'a>, NoMemory>
-    ensures same { IfOk result (λ step. through_all waiting.new.items (front_of step) ≡ through_all waiting.old.items (through one (Some (plain expr, text.now)))) }
+    ensures same { IfOk result (λ step. through_all waiting.new.items (front_of step)
+        ≡ through_all waiting.old.items (through one (Some (plain expr, text.now)))) }
     ensures less { IfOk result (λ step. vec_len waiting.new + left_at step ≤ vec_len waiting.old + 3 * length text.now) }
 {
     match one {
@@ -241,7 +243,7 @@ pub fn read_expression(alloc: Global, text: &[u8]) -> Result<Option<(Expr, &[u8]
             Step::Nothing => return Ok(None),
             Step::Read(expr, rest) => match waiting.pop() {
                 None => return Ok(Some((expr, rest))),
-                Some(one) => went_on(alloc, &mut waiting, one, expr, rest)?,
+                Some(one) => resume(alloc, &mut waiting, one, expr, rest)?,
             },
         };
     }

@@ -1,8 +1,9 @@
 ghost use Rattle.std.specs.Prelude.{◌≡◌, ◌<◌, ◌≤◌, IfOk, IfSome, bytes_eq, codes, length, option_map};
 ghost use Rattle.std.specs.Char.{is_ascii_digit};
 ghost use Rattle.std.specs.List.{list_all, prefix_len};
-ghost use Rattle.bk_expr.specs.Names.{is_octal, register_by, register_of, register_digit, register_at, mnemonic_of, begins_with_digit, is_spelt_as_name, is_reserved, is_name};
-ghost use Rattle.bk_expr.specs.Names.{name_of, digits_of, after_digits, word_of_digits, number_of, local_of};
+ghost use Rattle.bk_expr.specs.Names.{is_octal, register_by, register_of, register_digit, register_at, mnemonic_of};
+ghost use Rattle.bk_expr.specs.Names.{begins_with_digit, is_spelt_as_name, is_reserved, is_name, name_of};
+ghost use Rattle.bk_expr.specs.Names.{digits_of, after_digits, word_of_digits, number_of, local_of};
 ghost use Rattle.bk_expr.specs.Text.{is_of_run};
 
 use crate::text::{is_of_run, run, sign};

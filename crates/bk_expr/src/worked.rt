@@ -55,7 +55,8 @@ enum Step<'a> {
 // One more that waits.
 #[tactic(auto, using(crate::proofs::Working::through_last, crate::proofs::Working::left_last))]
 fn wait<'a>(waiting: &mut Vec<Waiting<'a>>, one: Waiting<'a>) -> Result<(), NoMemory>
-    ensures same { OnOk result ((values : Values) (here : ℕ) (part : Worked) → through_all values here waiting.new.items part ≡ through_all values here waiting.old.items (through values here one.entry part)) }
+    ensures same { OnOk result ((values : Values) (here : ℕ) (part : Worked) → through_all values here waiting.new.items part
+        ≡ through_all values here waiting.old.items (through values here one.entry part)) }
     ensures more { OnOk result (left_of waiting.new.items ≡ left_of waiting.old.items + left_by one.entry) }
 {
     let Ok(()) = waiting.push(one) else {
@@ -121,7 +122,8 @@ fn down<'a, N: Names>(
     names: &N,
     here: u16,
 ) -> Result<Step<'a>, NoMemory>
-    ensures same { IfOk result (λ step. through_all (N.values names.now) here waiting.new.items (worked_by (N.values names.now) here step) ≡ through_all (N.values names.now) here waiting.old.items (worked (N.values names.now) here (plain expr.now))) }
+    ensures same { IfOk result (λ step. through_all (N.values names.now) here waiting.new.items (worked_by (N.values names.now) here step)
+        ≡ through_all (N.values names.now) here waiting.old.items (worked (N.values names.now) here (plain expr.now))) }
     ensures less { IfOk result (λ step. left_of waiting.new.items + left_at step < left_of waiting.old.items + left_in expr.now) }
 {
     match expr {
@@ -140,13 +142,14 @@ fn down<'a, N: Names>(
     }
 }
 
-// Goes on from a part by what waits for it.
-fn up<'a>(
+// Resumes what waits, with the part that it waited for.
+fn resume<'a>(
     waiting: &mut Vec<Waiting<'a>>,
     one: Waiting<'a>,
     part: Worked,
 ) -> Result<Step<'a>, NoMemory>
-    ensures same { (values : Values) (here : ℕ) → IfOk result (λ step. through_all values here waiting.new.items (worked_by values here step) ≡ through_all values here waiting.old.items (through values here one.entry part)) }
+    ensures same { (values : Values) (here : ℕ) → IfOk result (λ step. through_all values here waiting.new.items (worked_by values here step)
+        ≡ through_all values here waiting.old.items (through values here one.entry part)) }
     ensures less { IfOk result (λ step. left_of waiting.new.items + left_at step < left_of waiting.old.items + left_by one.entry) }
 {
     match one {
@@ -178,7 +181,7 @@ pub fn value_of<N: Names>(
             Step::Part(part) => down(&mut waiting, part, names, here)?,
             Step::Found(part) => match waiting.pop() {
                 None => return Ok(part),
-                Some(one) => up(&mut waiting, one, part)?,
+                Some(one) => resume(&mut waiting, one, part)?,
             },
         };
     }

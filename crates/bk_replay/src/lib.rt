@@ -21,5 +21,5 @@ mod replaying;
 
 pub use bk_kernel::Summary;
 pub use laws::law_kept_script;
-pub use playing::{PlayStop, play};
+pub use playing::{PlayStop, play, write_end};
 pub use replaying::{RunStop, replay};

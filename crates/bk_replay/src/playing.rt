@@ -106,7 +106,8 @@ pub fn play<O: Sink>(
     Ok(summary)
 }
 
-fn write_end<O: Sink>(summary: &Summary, out: &mut O) -> Result<(), Failed>
+/// Writes the END line of these totals.
+pub fn write_end<O: Sink>(summary: &Summary, out: &mut O) -> Result<(), Failed>
     ensures written { OnOk result (Took (O.taken out.old) (O.taken out.new) (O.faults out.old) (O.faults out.new) (end_text summary.now)) }
     ensures failed { OnErr result (Broke (O.taken out.old) (O.taken out.new) (O.faults out.old) (O.faults out.new) (end_text summary.now)) }
 {

@@ -2,12 +2,12 @@
 use Rattle.std.proofs.Common.{◌≡◌, ◌⊎◌, inl, inr, ℕ, List, [], refl, sym, ◌∙◌, ap, subst, arith, length, drop, length-drop, Some, None, IfSome, Ok, Err}
 use Rattle.std.specs.Prelude.{Option, Result}
 use Rattle.bk_base.specs.Outside.{SourceState, Rose, given_since}
-use Rattle.bk_replay.specs.Input.{OnInput, IsAllRead}
+use Rattle.bk_replay.specs.Input.{OnInput}
 use Rattle.bk_replay.proofs.Input.{input_map, some_all}
 use Rattle.blpk.specs.Lines.{usage_line, read_line, memory_line, line_of}
 use Rattle.blpk.specs.Made.{made_of, most_read, most_for, most_for_words, status_of, status_made, by_command, expected}
 use Rattle.blpk.specs.Words.{command_of}
-use Rattle.blpk.specs.Causes.{IsNamed, Asked, Made, Refuses, IsRefused, Row, IsRefusal, ByOut, ByErr}
+use Rattle.blpk.specs.Causes.{IsNamed, IsRead, Asked, Made, Refuses, IsRefused, Row, IsRefusal, ByOut, ByErr}
 use Rattle.blpk.specs.Outcomes.{CameTo, Performed, Said, Finished}
 use Rattle.blpk.specs.declared.words.Command.{Command}
 use Rattle.blpk.specs.declared.outcome.Outcome.{Outcome}
@@ -47,10 +47,10 @@ module _ (words : List (List ℕ)) (before after : SourceState) (unread kept : T
   -- ---- status Ok
 
   abbrev Fine : Type 0
-  Fine = (IsAllRead before after × Asked words before after (Made took)) × quiet
+  Fine = (IsRead words before after × Asked words before after (Made took)) × quiet
 
   ok_came : (command : Command) (s : Status) (o : Outcome) → command_of words ≡ Some command → Came command o → Told s o → s ≡ status.Ok → Fine
-  ok_came command s outcome.Written w p f e = ((p.0, record { command = command; named = w; bytes = p.1 }), f.1)
+  ok_came command s outcome.Written w p f e = ((record { command = command; named = w; read = p.0 }, record { command = command; named = w; bytes = p.1 }), f.1)
   ok_came command s outcome.Write w p f e = let bad : status.WriteFault ≡ status.Ok = sym f.0 ∙ e in cc
   ok_came command s outcome.Usage w p f e = absurd p
   ok_came command s outcome.Read w p f e = absurd (not_ok read_line status.ReadFault s (λ bad. cc) f e)

@@ -1,3 +1,4 @@
 pub mod Ended
+pub mod Numbers
 pub mod Runs
 pub mod Texts

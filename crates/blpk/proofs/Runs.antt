@@ -1,8 +1,8 @@
 -- What `run` makes of what it reads, and what its answer came to.
-use Rattle.std.proofs.Common.{◌≡◌, ℕ, List, [], refl, sym, ◌∙◌, ap, subst, Some, None, Ok, Err}
+use Rattle.std.proofs.Common.{◌≡◌, ℕ, List, [], length, length-drop, refl, sym, ◌∙◌, ap, subst, arith, Some, None, Ok, Err}
 use Rattle.std.specs.Prelude.{Option, Result}
 use Rattle.std.specs.Io.KnownBytes.{Appends}
-use Rattle.bk_base.specs.Outside.{SourceState}
+use Rattle.bk_base.specs.Outside.{SourceState, given_since}
 use Rattle.bk_image.specs.declared.fault.ImageFault.{ImageFault}
 use Rattle.bk_image.specs.Image.{image_of}
 use Rattle.bk_kernel.specs.declared.kernel.Summary.{Summary}
@@ -12,17 +12,19 @@ use Rattle.bk_replay.specs.Played.{summary_of}
 use Rattle.bk_replay.specs.Replayed as replayed
 use Rattle.bk_replay.specs.Replayed.{Spells, IsNoImage, IsNoScript, OfRun, OfReport, Replayed, script_after}
 use Rattle.bk_replay.specs.Isolated.{IsIsolated}
-use Rattle.bk_replay.proofs.Input.{input_map}
+use Rattle.bk_replay.specs.Input.{OnInput}
+use Rattle.bk_replay.proofs.Input.{input_map, some_all}
 use Rattle.bk_replay.proofs.Isolated.{of_report}
 use Rattle.bk_script.specs.declared.fault.ScriptFault.{ScriptFault}
 use Rattle.bk_state.specs.declared.image.Image.{Image}
 use Rattle.bk_system.specs.declared.script.TypedAt.{TypedAt}
 use Rattle.bk_system.specs.Report.{report_of}
 use Rattle.blpk.specs.Causes.{Asked, Made, Refuses}
-use Rattle.blpk.specs.Made.{made_of, by_image, by_script, most_read, IsIsolatedFor}
+use Rattle.blpk.specs.Made.{made_of, by_image, by_script, generated, most_for, most_for_words, most_read, HasRead, IsIsolatedFor}
 use Rattle.blpk.specs.Outcomes.{CameTo, outcome_of}
+use Rattle.blpk.specs.Words.{command_of}
 use Rattle.blpk.specs.declared.words.Command.{Command}
-use Rattle.blpk.specs.declared.words.Command.TheVariants.{Run}
+use Rattle.blpk.specs.declared.words.Command.TheVariants.{Run, Gen}
 use Rattle.blpk.specs.declared.outcome.Outcome.{Outcome}
 use Rattle.blpk.specs.declared.outcome.Outcome.TheVariants as outcome
 use Rattle.blpk.specs.declared.outcome.Refusal.{Refusal}
@@ -60,6 +62,7 @@ isolated_for : (before after : Option (List ℕ)) (took : List ℕ → Type 0) �
 isolated_for before after took takes Run bytes m =
     let r : OfReport (λ report. report ≡ m.text) bytes = by_image_is bytes (image_of bytes) m.text refl m.made in
     of_report before after bytes (record { image = r.image; records = r.records; slots = r.slots; spells = r.spells; run = subst (Appends before after) (sym r.run) (takes m.text m.holds) })
+isolated_for before after took takes (Gen n) bytes m = tt
 
 pub asked_isolated : (words : List (List ℕ)) (before after : SourceState) (taken now : Option (List ℕ)) (took : List ℕ → Type 0) → ((text : List ℕ) → took text → Appends taken now text) →
     Asked words before after (Made took) → Asked words before after (IsIsolatedFor taken now)
@@ -85,6 +88,29 @@ module _ (before after : SourceState) (kept : Type 0) (took broke : List ℕ →
       input_map replayed.most_read before after (OfReport broke) (Made broke Run)
       (λ bytes x. record { text = report_of x.image x.records x.slots; made = made_report bytes x.image x.records x.slots x.spells; holds = x.run }) p
   came_of (Err stop.NoMemory) p = p
+
+-- ---- gen
+
+-- of an input that stays as it is nothing was read
+nothing_read : (state : SourceState) (P : List ℕ → Type 0) → ((bytes : List ℕ) → P bytes) → OnInput 0 state state P
+nothing_read state P each =
+    let none : length (given_since state state) ≡ 0 = length-drop (length state.given) state.given ∙ omega arith in
+    record {
+      given = each (given_since state state);
+      within = omega (arith, none);
+      whole = λ h. absurd (omega (arith, h));
+      left = some_all state.left P each;
+    }
+
+-- a text that holds of the last line holds of what is made
+pub came_line : (n : ℕ) (state : SourceState) (P : List ℕ → Type 0) → P (generated n) → OnInput (most_read (Gen n)) state state (Made P (Gen n))
+came_line n state P holds = nothing_read state (Made P (Gen n)) (λ bytes. record { text = generated n; made = refl; holds = holds })
+
+-- `run` may read
+pub run_reads : (words : List (List ℕ)) → command_of words ≡ Some Run → most_for_words words ≡ 0 → ⊥
+run_reads words named none = let most : most_for_words words ≡ replayed.most_read = ap most_for named in omega (arith, most, none)
+
+-- ---- failures
 
 -- a run that failed came to that
 pub outcome_read : (answer : Result Summary RunStop) → answer ≡ Err stop.Read → outcome_of answer ≡ outcome.Read

@@ -3,7 +3,7 @@ use Rattle.std.specs.Prelude.{◌≡◌, ℕ, List, Option, Some, None, Result, 
 use Rattle.bk_base.specs.Outside.{SourceState, Rose}
 use Rattle.bk_replay.specs.Input.{OnInput}
 use Rattle.blpk.specs.Lines.{usage_line, read_line, memory_line, line_of}
-use Rattle.blpk.specs.Made.{made_of, most_read, status_of}
+use Rattle.blpk.specs.Made.{made_of, most_read, status_of, HasRead}
 use Rattle.blpk.specs.Words.{command_of}
 use Rattle.blpk.specs.declared.words.Command.{Command}
 use Rattle.blpk.specs.declared.outcome.Refusal.{Refusal}
@@ -19,6 +19,12 @@ IsRefusal status.ScriptRefused = ⊤
 IsRefusal status.ReadFault = ⊤
 IsRefusal status.WriteFault = ⊥
 IsRefusal status.NoMemory = ⊤
+
+-- the words name a command, and it has read what it reads
+pub record IsRead (words : List (List ℕ)) (before after : SourceState) : Type 0 where
+  pub command : Command
+  pub named : command_of words ≡ Some command
+  pub read : HasRead command before after
 
 -- the words name a command
 pub record IsNamed (words : List (List ℕ)) : Type 0 where

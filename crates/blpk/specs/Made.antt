@@ -1,17 +1,22 @@
 -- What each command makes of the bytes that it reads.
-use Rattle.std.specs.Prelude.{◌≡◌, ℕ, List, Option, Some, None, Result, Ok, Err}
+use Rattle.std.specs.Prelude.{◌≡◌, ℕ, List, Option, Some, None, Result, Ok, Err, ⊤}
+use Rattle.bk_base.specs.Outside.{SourceState}
+use Rattle.bk_gen.specs.Image.{generated_image}
+use Rattle.bk_gen.specs.Script.{generated_script}
 use Rattle.bk_image.specs.declared.fault.ImageFault.{ImageFault}
 use Rattle.bk_image.specs.Image.{image_of}
 use Rattle.bk_script.specs.declared.fault.ScriptFault.{ScriptFault}
 use Rattle.bk_state.specs.declared.image.Image.{Image}
 use Rattle.bk_system.specs.declared.script.TypedAt.{TypedAt}
 use Rattle.bk_system.specs.Report.{report_of}
+use Rattle.bk_replay.specs.Input.{IsAllRead}
+use Rattle.bk_replay.specs.Played.{summary_of, end_text}
 use Rattle.bk_replay.specs.Replayed as replayed
 use Rattle.bk_replay.specs.Replayed.{script_after}
 use Rattle.bk_replay.specs.Isolated.{IsIsolated}
 use Rattle.blpk.specs.Words.{command_of}
 use Rattle.blpk.specs.declared.words.Command.{Command}
-use Rattle.blpk.specs.declared.words.Command.TheVariants.{Run}
+use Rattle.blpk.specs.declared.words.Command.TheVariants.{Run, Gen}
 use Rattle.blpk.specs.declared.outcome.Refusal.{Refusal}
 use Rattle.blpk.specs.declared.outcome.Refusal.TheVariants as refusal
 use Rattle.blpk.specs.declared.status.Status.{Status}
@@ -34,20 +39,35 @@ abbrev pub by_image : List ℕ → Result (Image × ℕ) ImageFault → Result (
 by_image bytes (Ok image) = by_script image.0 (script_after image.0 image.1 bytes)
 by_image bytes (Err fault) = Err (refusal.Image fault)
 
+-- ---- gen
+
+-- the last line of the report of the run that is generated from the number
+abbrev pub generated : (n : ℕ) → List ℕ
+generated n = end_text (summary_of generated_image (generated_script n).typed (generated_script n).slots)
+
 -- ---- all commands
 
--- the most bytes that a command reads
+-- the most bytes that a command reads: `gen` reads none
 abbrev pub most_read : Command → ℕ
 most_read Run = replayed.most_read
+most_read (Gen n) = 0
+
+-- a command has read what it reads: `run` all that there is
+abbrev pub HasRead : Command → (before after : SourceState) → Type 0
+HasRead Run before after = IsAllRead before after
+HasRead (Gen n) before after = after ≡ before
 
 -- from the bytes that a command read, the bytes to write, or why they are refused: `run` makes the report of the image and the
--- script that they are
+-- script that they are, `gen` the last line of a generated run's
 abbrev pub made_of : Command → (bytes : List ℕ) → Result (List ℕ) Refusal
 made_of Run bytes = by_image bytes (image_of bytes)
+made_of (Gen n) bytes = Ok (generated n)
 
--- what isolation says of a command's output: `run` writes line records that don't tell of bytes typed elsewhere
+-- what isolation says of a command's output: `run` writes line records that don't tell of bytes typed elsewhere; to `gen` nothing
+-- is typed
 abbrev pub IsIsolatedFor : (before after : Option (List ℕ)) → Command → (bytes : List ℕ) → Type 0
 IsIsolatedFor before after Run bytes = IsIsolated before after bytes
+IsIsolatedFor before after (Gen n) bytes = ⊤
 
 -- ---- what the words ask for
 

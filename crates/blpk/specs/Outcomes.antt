@@ -2,12 +2,12 @@
 use Rattle.std.specs.Prelude.{◌≡◌, ◌⊎◌, ℕ, List, Some, None, Result, Ok, Err}
 use Rattle.bk_base.specs.Outside.{SourceState, Rose}
 use Rattle.bk_kernel.specs.declared.kernel.Summary.{Summary}
-use Rattle.bk_replay.specs.Input.{OnInput, IsAllRead}
+use Rattle.bk_replay.specs.Input.{OnInput}
 use Rattle.bk_replay.specs.declared.replaying.RunStop.{RunStop}
 use Rattle.bk_replay.specs.declared.replaying.RunStop.TheVariants as stop
 use Rattle.blpk.specs.Causes.{Made, Refuses}
 use Rattle.blpk.specs.Lines.{usage_line, read_line, memory_line, line_of}
-use Rattle.blpk.specs.Made.{most_read, status_of}
+use Rattle.blpk.specs.Made.{most_read, status_of, HasRead}
 use Rattle.blpk.specs.Words.{command_of}
 use Rattle.blpk.specs.declared.words.Command.{Command}
 use Rattle.blpk.specs.declared.outcome.Outcome.{Outcome}
@@ -29,7 +29,7 @@ outcome_of (Err stop.NoMemory) = outcome.NoMemory
 -- and `broke` that it took a text, or that it failed after a front of it.
 abbrev pub CameTo : Command → (before after : SourceState) (kept : Type 0) (took broke : List ℕ → Type 0) → Outcome → Type 0
 CameTo command before after kept took broke outcome.Written =
-    IsAllRead before after × OnInput (most_read command) before after (Made took command)
+    HasRead command before after × OnInput (most_read command) before after (Made took command)
 CameTo command before after kept took broke outcome.Usage = ⊥
 CameTo command before after kept took broke outcome.Read = kept × Rose before.faults after.faults
 CameTo command before after kept took broke (outcome.Refused refusal) =

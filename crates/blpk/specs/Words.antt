@@ -1,14 +1,21 @@
 -- The words of the command line.
-use Rattle.std.specs.Prelude.{ℕ, List, [], ◌∷◌, Option, Some, None, String, string_bytes, bytes_eq, codes, map, if◌then◌else◌}
+use Rattle.std.specs.Prelude.{ℕ, ◌^◌, ◌&&◌, nat_lt, if◌then◌else◌, List, [], ◌∷◌, map, Option, Some, None, option_map}
+use Rattle.std.specs.Prelude.{String, string_bytes, bytes_eq, codes, decimal}
+use Rattle.std.specs.Str.Parse.{digits_value}
 use Rattle.blpk.specs.declared.words.Command.{Command}
-use Rattle.blpk.specs.declared.words.Command.TheVariants.{Run}
+use Rattle.blpk.specs.declared.words.Command.TheVariants.{Run, Gen}
 
 -- the words as bytes
 abbrev pub texts : {Z : Type 0} → List (String Z) → List (List ℕ)
 texts words = map string_bytes words
 
--- the command that the words name: `run`, and nothing else
+-- the number that a word is in decimal, without leading zeros: 0 to 4,294,967,295
+abbrev pub number_of : List ℕ → Option ℕ
+number_of word = if nat_lt (digits_value 10 word) (2 ^ 32) && bytes_eq (decimal (digits_value 10 word)) word then Some (digits_value 10 word) else None
+
+-- the command that the words name: `run`, or `gen` and a number
 abbrev pub command_of : List (List ℕ) → Option Command
 command_of [] = None
 command_of (word ∷ []) = if bytes_eq word (codes "run") then Some Run else None
-command_of (word ∷ other ∷ words) = None
+command_of (word ∷ number ∷ []) = if bytes_eq word (codes "gen") then option_map Gen (number_of number) else None
+command_of (word ∷ other ∷ next ∷ words) = None

@@ -15,13 +15,16 @@ const TOO_LONG: &[u8] = b"script refused at line 0: long\n";
 /// The first call of the sample, where a byte was typed.
 const FIRST_CALL: &[u8] = b"C 0 2 0 020 000000 010400 000000 000000 000000 010400 yes 0\n";
 
-const WRONG_WORDS: [&[&str]; 8] = [
+const WRONG_WORDS: [&[&str]; 11] = [
     &["run", "x"],
     &[],
     &["RUN"],
     &[""],
     &["gen"],
     &["gen", "01"],
+    &["gen", "-1"],
+    &["gen", "4294967296"],
+    &["gen", "1", "2"],
     &["--help"],
     &["--version"],
 ];
@@ -245,6 +248,21 @@ fn refuses_wrong_words(rt: HostRuntime) -> Result<(), Fail> {
             &input,
             outside,
             (Status::WriteFault, b"", b"usage")
+        )?
+    );
+    Ok(())
+}
+
+#[test]
+fn generates_and_runs_a_large_run(rt: HostRuntime) -> Result<(), Fail> {
+    let end = b"END 4096 262144 81888 16380\n";
+    assert!(rt;
+        gives(
+            rt.alloc(),
+            &["gen", "1000"],
+            b"",
+            AMPLE,
+            (Status::Ok, end, b"")
         )?
     );
     Ok(())

@@ -3,10 +3,10 @@
 ghost use Rattle.std.specs.Prelude.{◌≡◌, ◌⊎◌, ◌≤◌, None, List, ℕ, length};
 ghost use Rattle.bk_base.specs.Outside.{Rose};
 ghost use Rattle.bk_base.specs.Written.{Took, Broke};
-ghost use Rattle.bk_replay.specs.Input.{OnInput, IsAllRead};
+ghost use Rattle.bk_replay.specs.Input.{OnInput};
 ghost use Rattle.blpk.specs.Words.{command_of, texts};
 ghost use Rattle.blpk.specs.Made.{IsIsolatedFor, expected, most_for_words};
-ghost use Rattle.blpk.specs.Causes.{Asked, Made, Row, IsRefusal, ByOut, ByErr};
+ghost use Rattle.blpk.specs.Causes.{Asked, Made, Row, IsRead, IsRefusal, ByOut, ByErr};
 
 use crate::finish::finish;
 use crate::perform::perform;
@@ -25,9 +25,10 @@ pub fn run_blpk<I: Source, O: Sink, E: Sink>(
     out: &mut O,
     err: &mut E,
 ) -> Status
-    // All input is read, the words name a command, and the output took exactly what the command makes of the input: of an image
-    // and a script, `run` makes the report of their run.
-    ensures ok { result ≡ Status.Ok → IsAllRead (I.state input.old) (I.state input.new)
+    // The words name a command, which has read what it reads (`run` all that there is, `gen` nothing), and the output took exactly
+    // what the command makes of it: of an image and a script, `run` makes the report of their run, and `gen` the last line of the
+    // report of the run that is generated from its number.
+    ensures ok { result ≡ Status.Ok → IsRead (texts words.now.items) (I.state input.old) (I.state input.new)
         × Asked (texts words.now.items) (I.state input.old) (I.state input.new)
         (Made (Took (O.taken out.old) (O.taken out.new) (O.faults out.old) (O.faults out.new))) }
     ensures quiet { result ≡ Status.Ok → err.new ≡ err.old }
@@ -49,7 +50,10 @@ pub fn run_blpk<I: Source, O: Sink, E: Sink>(
         ⊎ ByErr (texts words.now.items) (I.state input.old) (I.state input.new) (out.new ≡ out.old)
         (Broke (E.taken err.old) (E.taken err.new) (E.faults err.old) (E.faults err.new)) }
 
-    // Wrong words give Usage, or WriteFault by the error output, and nothing is read.
+    // Where the words ask for no input nothing is read, whatever the status.
+    ensures unread { most_for_words (texts words.now.items) ≡ 0 → input.new ≡ input.old }
+
+    // Wrong words give Usage, or WriteFault by the error output.
     ensures wrong_words { command_of (texts words.now.items) ≡ None →
         ((result ≡ Status.Usage) ⊎ (result ≡ Status.WriteFault)) × (input.new ≡ input.old) × (out.new ≡ out.old) }
 

@@ -1,4 +1,4 @@
-use Rattle.std.proofs.Common.{rules, arith, ◌<◌, ◌+◌, ◌-◌, ◌*◌, get_or}
+use Rattle.std.proofs.Common.{◌<◌, ◌+◌, ◌-◌, ◌*◌, get_or}
 use Rattle.bk_expr.proofs.Runs.{too_large}
 use Rattle.bk_expr.proofs.word.word_of_digits.Goals as goal
 
