@@ -1,10 +1,11 @@
--- A generated script is a script for an image of four lines and 64 turns a slot.
-use Rattle.std.proofs.Common.{◌≡◌, ℕ, zero, suc, ◌+◌, ◌*◌, ◌/◌, ◌%◌, ◌<◌, ◌≤◌, [], ◌∷◌, map, refl, ap, ◌∙◌, arith, inl, lit≤, ◌++◌, add-one}
+-- A generated script: what one more number types, and that it is a script for an image of four lines and 64 turns a slot.
+use Rattle.std.proofs.Common.{◌≡◌, ℕ, zero, suc, ◌+◌, ◌*◌, ◌/◌, ◌%◌, ◌<◌, ◌≤◌, List, [], sym, ◌∷◌, map, refl, ap, ◌∙◌, arith, inl, lit≤, ◌++◌, add-one}
 use Rattle.std.specs.Prelude.{All, ◌^◌}
 use Rattle.std.specs.List.{range_with_len}
 use Rattle.std.proofs.lemmas.List.Elements.{All-nil, All-cons, All-map}
 use Rattle.std.proofs.lemmas.List.FromFn.{map-range_with_len_more}
 use Rattle.bk_script.specs.Script.{IsTyped, IsInOrder, IsScript}
+use Rattle.bk_system.specs.declared.TypedAt.{TypedAt}
 use Rattle.bk_gen.specs.Subjects.{numbers_below}
 use Rattle.bk_gen.specs.Numbers.{number_after, number_at}
 use Rattle.bk_gen.specs.Script.{high_half, typed_by, typed_in, typed_below, generated_script}
@@ -51,7 +52,7 @@ pub number_at-first : (n : ℕ) → number_at n 0 ≡ n
 unfolding number_at
 number_at-first n = refl
 
-pub number_at-next : (n k : ℕ) → number_at n (k + 1) ≡ number_after (number_at n k)
+number_at-next : (n k : ℕ) → number_at n (k + 1) ≡ number_after (number_at n k)
 unfolding number_at
 number_at-next n k = rw add-one refl
 
@@ -59,8 +60,18 @@ pub typed_below-none : (n : ℕ) → typed_below n 0 ≡ []
 unfolding typed_below
 typed_below-none n = refl
 
-pub typed_below-more : (n slots : ℕ) → typed_below n (slots + 1) ≡ typed_below n slots ++ typed_by slots (number_after (number_at n slots)) ∷ []
+typed_below-more : (n slots : ℕ) → typed_below n (slots + 1) ≡ typed_below n slots ++ typed_by slots (number_after (number_at n slots)) ∷ []
 unfolding typed_below
 typed_below-more n slots =
     map-range_with_len_more (typed_in n) 0 slots slots (omega arith)
     ∙ ap (λ x. map (typed_in n) (numbers_below slots) ++ typed_by slots x ∷ []) (number_at-next n slots)
+
+-- the number that follows, and what it types in the next slot
+pub number_more : (n slots x next : ℕ) → x ≡ number_at n slots → next ≡ number_after x → next ≡ number_at n (slots + 1)
+number_more n slots x next number is = is ∙ ap number_after number ∙ sym (number_at-next n slots)
+
+pub typed_more : (n slots x : ℕ) (old new : List TypedAt) (typed : TypedAt) →
+    x ≡ number_at n slots → old ≡ typed_below n slots → new ≡ old ++ typed ∷ [] → typed ≡ typed_by slots (number_after x) → new ≡ typed_below n (slots + 1)
+typed_more n slots x old new typed number before push is =
+    let same : typed ≡ typed_by slots (number_after (number_at n slots)) = is ∙ ap (λ y. typed_by slots (number_after y)) number in
+    push ∙ (λ i. before i ++ same i ∷ []) ∙ sym (typed_below-more n slots)

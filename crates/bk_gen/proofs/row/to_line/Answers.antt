@@ -21,7 +21,7 @@ loop-subject-preserved c =
       | else-subject-line w ↦
           w.row-is
           ∙ c.loop-subject.invariant
-          ∙ sym (granted-passed (λ subject. line_of subject == c.args.line) (only Write) n (other_line (line_of n) c.args.line w.if-subject-line.false))
+          ∙ granted-passed (λ subject. line_of subject == c.args.line) (only Write) n (omega arith) (other_line (line_of n) c.args.line w.if-subject-line.false)
     ]
 
 pub returns : goal.returns

@@ -1,7 +1,5 @@
-use Rattle.std.proofs.Common.{◌++◌, ◌∷◌, [], sym, ap, ◌∙◌}
-use Rattle.bk_gen.specs.Numbers.{number_after}
-use Rattle.bk_gen.specs.Script.{typed_by}
-use Rattle.bk_gen.proofs.Typed.{number_at-first, number_at-next, typed_below-none, typed_below-more}
+use Rattle.std.proofs.Common.{sym, ◌∙◌}
+use Rattle.bk_gen.proofs.Typed.{number_at-first, typed_below-none, number_more, typed_more}
 use Rattle.bk_gen.proofs.typing.typed_below.Goals as goal
 
 pub loop-slot-init : goal.loop-slot-init
@@ -11,12 +9,9 @@ loop-slot-init c = record {
 }
 
 pub loop-slot-preserved : goal.loop-slot-preserved
-loop-slot-preserved c =
-    let number = c.in_ok-typed_next.ensures.number ∙ ap number_after c.loop-slot.invariant.number in
-    let typed = c.in_ok-typed_next.ensures.typed ∙ ap (λ x. typed_by c.loop-slot.slot (number_after x)) c.loop-slot.invariant.number in
-    record {
-      number = number ∙ sym (number_at-next c.args.n c.loop-slot.slot);
-      typed = c.in_ok-push.ensures.items
-          ∙ (λ i. c.loop-slot.invariant.typed i ++ typed i ∷ [])
-          ∙ sym (typed_below-more c.args.n c.loop-slot.slot);
-    }
+loop-slot-preserved c = record {
+  number = number_more c.args.n c.loop-slot.slot c.loop-slot.x c.typed_next.new.x c.loop-slot.invariant.number c.in_ok-typed_next.ensures.number;
+  typed =
+      typed_more c.args.n c.loop-slot.slot c.loop-slot.x c.loop-slot.typed.items c.push.new.self.items c.in_ok-typed_next.field-0
+      c.loop-slot.invariant.number c.loop-slot.invariant.typed c.in_ok-push.ensures.items c.in_ok-typed_next.ensures.typed;
+}

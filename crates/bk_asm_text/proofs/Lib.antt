@@ -1,0 +1,10 @@
+pub mod Fronts
+pub mod Rows
+pub mod Choices
+pub mod Addressing
+pub mod Many
+pub mod Shorter
+pub mod Loops
+pub mod Lines
+pub mod Statements
+pub mod First

@@ -1,0 +1,5 @@
+use Rattle.bk_asm_text.proofs.Statements.{one_a_line}
+use Rattle.bk_asm_text.proofs.splitting.split.Goals as goal
+
+pub returns-clause-lines : goal.returns-clause-lines
+returns-clause-lines c = one_a_line c.split_lines.result c.args.text.now c.split_lines.ensures

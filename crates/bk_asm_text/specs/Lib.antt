@@ -1,0 +1,9 @@
+pub mod Fault
+pub mod Plain
+pub mod Parts
+pub mod Operands
+pub mod Forms
+pub mod Directives
+pub mod Statements
+pub mod First
+pub mod Addressing
