@@ -33,7 +33,7 @@ fn put(words: &mut [u16], content: Content) -> bool {
 }
 
 /// The words of a page with what the case puts there.
-fn filled(
+pub fn filled(
     alloc: Global,
     page: u8,
     shape: CasePage,
@@ -71,18 +71,24 @@ fn bus_of(alloc: Global, case: &StepCase) -> Result<PlainBus, Unread>
     }
 }
 
+/// The words of a page after the write of the case.
+pub fn words_after(alloc: Global, case: &StepCase, page: u8) -> Result<Vec<u16>, Unread> {
+    let Some(shape) = case.pages.get(page as usize) else {
+        return Err(Unread::Form);
+    };
+    let mut words = filled(alloc, page, *shape, case.words.as_slice())?;
+    if let Some(write) = case.write {
+        if write.page == page && !put(words.as_mut_slice(), write) {
+            return Err(Unread::Form);
+        }
+    }
+    Ok(words)
+}
+
 /// Whether the pages are those of the case after its write.
 fn has_pages(alloc: Global, bus: &PlainBus, case: &StepCase) -> Result<bool, Unread> {
     for page in 0..PAGES {
-        let Some(shape) = case.pages.get(page as usize) else {
-            return Err(Unread::Form);
-        };
-        let mut words = filled(alloc, page, *shape, case.words.as_slice())?;
-        if let Some(write) = case.write {
-            if write.page == page && !put(words.as_mut_slice(), write) {
-                return Err(Unread::Form);
-            }
-        }
+        let words = words_after(alloc, case, page)?;
         if bus.words(page) != words.as_slice() {
             return Ok(false);
         }
@@ -117,7 +123,7 @@ fn same_status(a: Ps, b: Ps) -> bool
         && same_flags(a.flags, b.flags)
 }
 
-fn same_regs(a: Regs, b: Regs) -> bool
+pub fn same_regs(a: Regs, b: Regs) -> bool
     ensures { IsTrue result ↔ (a ≡ b) }
 {
     same_words(a.general, b.general)
@@ -127,7 +133,7 @@ fn same_regs(a: Regs, b: Regs) -> bool
         && same_status(a.ps, b.ps)
 }
 
-fn same_event(a: Event, b: Event) -> bool
+pub fn same_event(a: Event, b: Event) -> bool
     ensures { IsTrue result ↔ (a ≡ b) }
 {
     a == b

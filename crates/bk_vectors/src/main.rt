@@ -1,7 +1,8 @@
 //! Compares cases of the processor, computed outside, with the project's own calls.
 //!
 //! Model: none; `Agrees` of `bk_case` says when a case agrees.
-//! Calls: none. `main` takes cases on standard input, and writes those that differ, up to twenty, and the totals.
+//! Calls: none. `main` takes cases on standard input, and writes those that differ, up to twenty, and the totals;
+//! a case of one instruction is taken on a plain bus and through the machine, each with a total of its own.
 //! Proved: no input stops it. Whether a case agrees, and how it is counted, is proved in `bk_case`.
 //! Tested: how cases are read, by one run over 1,275 lines.
 //! Neither: nothing.
@@ -14,7 +15,7 @@ mod line;
 mod names;
 mod numbers;
 
-use bk_case::{Tally, Unread, agrees, step_agrees};
+use bk_case::{Tally, Unread, agrees, machine_agrees, step_agrees};
 use block::read_step;
 use line::read_case;
 use std::alloc::{AllocError, Global};
@@ -23,6 +24,9 @@ use std::process::ExitCode;
 
 /// How many lines that differ are named.
 const NAMED: u64 = 20;
+
+/// How a case that differs on the machine is named.
+const THROUGH: &str = " through the machine";
 
 /// Whether a line spells a case, and the project's call gives its answer.
 fn line_agrees(line: &[u8]) -> bool {
@@ -35,15 +39,8 @@ fn line_agrees(line: &[u8]) -> bool {
     }
 }
 
-/// Whether a block of lines spells a case of one instruction, and a step on a plain bus gives its answer.
-fn block_agrees(alloc: Global, block: &[u8]) -> Result<bool, AllocError> {
-    let Ok(text) = str::from_utf8(block) else {
-        return Ok(false);
-    };
-    let agrees = match read_step(alloc, text) {
-        Ok(case) => step_agrees(alloc, &case),
-        Err(stop) => Err(stop),
-    };
+/// Whether a case that was read agrees; one that is spelled wrongly doesn't.
+fn answer(agrees: Result<bool, Unread>) -> Result<bool, AllocError> {
     match agrees {
         Ok(agrees) => Ok(agrees),
         Err(Unread::Form) => Ok(false),
@@ -51,12 +48,30 @@ fn block_agrees(alloc: Global, block: &[u8]) -> Result<bool, AllocError> {
     }
 }
 
-/// Names a line that differs, or the first line of a block.
-fn name_line<R: Print>(rt: &R, number: usize, text: &[u8]) -> io::Result<()> {
+/// Whether a block of lines spells a case of one instruction, and a step on a plain bus gives its answer; and whether the
+/// machine gives it.
+fn block_agrees(alloc: Global, block: &[u8]) -> Result<(bool, bool), AllocError> {
+    let Ok(text) = str::from_utf8(block) else {
+        return Ok((false, false));
+    };
+    match read_step(alloc, text) {
+        Ok(case) => {
+            let plain = answer(step_agrees(alloc, &case))?;
+            Ok((plain, answer(machine_agrees(alloc, &case))?))
+        }
+        Err(unread) => {
+            let neither = answer(Err(unread))?;
+            Ok((neither, neither))
+        }
+    }
+}
+
+/// Names a line that differs, or the first line of a block, and where it does.
+fn name_line<R: Print>(rt: &R, number: usize, place: &str, text: &[u8]) -> io::Result<()> {
     let line = text.split(|byte| *byte == b'\n').next().unwrap_or(text);
     match str::from_utf8(line) {
-        Ok(line) => println!(rt; "line {number} differs: {line}"),
-        Err(_) => println!(rt; "line {number} differs"),
+        Ok(line) => println!(rt; "line {number} differs{place}: {line}"),
+        Err(_) => println!(rt; "line {number} differs{place}"),
     }
 }
 
@@ -68,24 +83,54 @@ fn without_end(text: &[u8]) -> &[u8] {
     }
 }
 
+/// What was counted: every case, and those of one instruction once more, through the machine.
+#[derive(Clone, Copy)]
+struct Tallies {
+    cases: Tally,
+    machine: Tally,
+}
+
+impl Tallies {
+    fn new() -> Tallies {
+        Tallies {
+            cases: Tally::new(),
+            machine: Tally::new(),
+        }
+    }
+}
+
 /// Counts a case, and names it where it differs, up to twenty.
 fn count<R: Print>(
     rt: &R,
     tally: &mut Tally,
     agrees: bool,
     number: usize,
+    place: &str,
     text: &[u8],
 ) -> io::Result<()> {
     tally.count(agrees);
     if !agrees && tally.differ <= NAMED {
-        name_line(rt, number, text)?;
+        name_line(rt, number, place, text)?;
     }
     Ok(())
 }
 
+/// Counts the case of a block of lines, on a plain bus and on the machine.
+fn count_block<R: Print>(
+    rt: &R,
+    alloc: Global,
+    tallies: &mut Tallies,
+    number: usize,
+    block: &[u8],
+) -> io::Result<()> {
+    let (plain, machine) = block_agrees(alloc, block)?;
+    count(rt, &mut tallies.cases, plain, number, "", block)?;
+    count(rt, &mut tallies.machine, machine, number, THROUGH, block)
+}
+
 /// Counts the cases: each line is one, and from a line `case` on the lines up to an empty one are one.
-fn compare<R: Print>(rt: &R, alloc: Global, text: &[u8]) -> io::Result<Tally> {
-    let mut tally = Tally::new();
+fn compare<R: Print>(rt: &R, alloc: Global, text: &[u8]) -> io::Result<Tallies> {
+    let mut tallies = Tallies::new();
     let mut block = Vec::new(alloc);
     let mut first = 0;
     for (at, line) in text.split(|byte| *byte == b'\n').enumerate() {
@@ -93,10 +138,10 @@ fn compare<R: Print>(rt: &R, alloc: Global, text: &[u8]) -> io::Result<Tally> {
             first = at + 1;
         }
         if first == 0 {
-            count(rt, &mut tally, line_agrees(line), at + 1, line)?;
+            let agrees = line_agrees(line);
+            count(rt, &mut tallies.cases, agrees, at + 1, "", line)?;
         } else if line.is_empty() {
-            let agrees = block_agrees(alloc, block.as_slice())?;
-            count(rt, &mut tally, agrees, first, block.as_slice())?;
+            count_block(rt, alloc, &mut tallies, first, block.as_slice())?;
             block.clear();
             first = 0;
         } else {
@@ -105,22 +150,26 @@ fn compare<R: Print>(rt: &R, alloc: Global, text: &[u8]) -> io::Result<Tally> {
         }
     }
     if first != 0 {
-        let agrees = block_agrees(alloc, block.as_slice())?;
-        count(rt, &mut tally, agrees, first, block.as_slice())?;
+        count_block(rt, alloc, &mut tallies, first, block.as_slice())?;
     }
-    Ok(tally)
+    Ok(tallies)
 }
 
 fn main(rt: HostRuntime) -> io::Result<ExitCode> {
     let mut bytes = Vec::new(rt.alloc());
     rt.reader().read_to_end(&mut bytes)?;
-    let tally = if bytes.is_empty() {
-        Tally::new()
+    let tallies = if bytes.is_empty() {
+        Tallies::new()
     } else {
         compare(&rt, rt.alloc(), without_end(&bytes))?
     };
-    println!(rt; "{} agree, {} differ", tally.agree, tally.differ)?;
-    Ok(if tally.is_clean() {
+    let Tallies { cases, machine } = tallies;
+    println!(rt; "{} agree, {} differ", cases.agree, cases.differ)?;
+    println!(rt;
+        "through the machine: {} agree, {} differ",
+        machine.agree, machine.differ
+    )?;
+    Ok(if cases.is_clean() && machine.is_clean() {
         ExitCode::SUCCESS
     } else {
         ExitCode::FAILURE
