@@ -1,10 +1,12 @@
 -- What the bytes of a run spell, and what each answer of a run says.
-use Rattle.std.specs.Prelude.{◌≡◌, ℕ, List, drop, Result, Ok, Err, IsOk}
+use Rattle.std.specs.Prelude.{◌≡◌, ℕ, ◌+◌, List, drop, Result, Ok, Err, IsOk}
 use Rattle.bk_base.specs.Outside.{SourceState, Rose}
 use Rattle.bk_image.specs.declared.fault.ImageFault.{ImageFault}
 use Rattle.bk_image.specs.Image.{image_of}
+use Rattle.bk_image.specs.Limits as image_limits
 use Rattle.bk_kernel.specs.declared.kernel.Summary.{Summary}
 use Rattle.bk_script.specs.declared.fault.ScriptFault.{ScriptFault}
+use Rattle.bk_script.specs.Limits as script_limits
 use Rattle.bk_script.specs.Lines.{script_of}
 use Rattle.bk_state.specs.declared.image.Image.{Image}
 use Rattle.bk_system.specs.declared.script.TypedAt.{TypedAt}
@@ -16,9 +18,9 @@ use Rattle.bk_replay.specs.Played.{summary_of}
 
 -- ---- the input
 
--- the most bytes that a run reads: an image of 524,288, a script of 1,048,576, and one more, which shows that one is too long
+-- the most bytes that a run reads: those of an image and of a script, and one more, which shows that one is too long
 abbrev pub most_read : ℕ
-most_read = 1572865
+most_read = image_limits.most_bytes + script_limits.most_bytes + 1
 
 -- the script that the bytes after an image of so many bytes spell for it, or its first fault
 abbrev pub script_after : Image → ℕ → List ℕ → Result (List TypedAt × ℕ) ScriptFault
