@@ -5,5 +5,6 @@ pub mod Operands
 pub mod Forms
 pub mod Directives
 pub mod Statements
+pub mod Before
 pub mod First
 pub mod Addressing

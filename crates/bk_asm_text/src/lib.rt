@@ -1,11 +1,11 @@
 //! Assembly text: what each of its lines says, as a statement.
 //!
 //! Model: `specs/Statements.antt` (`statements_of`: the statements of a text, or its first fault; `statement_of`, `lines_of`),
-//! `specs/First.antt` (`IsFirstOutside`), `specs/Operands.antt` (`operand_at`, by the rows of addressing), `specs/Forms.antt`
+//! `specs/Before.antt` (`before_fault`), `specs/First.antt` (`IsFirstOutside`), `specs/Operands.antt` (`operand_at`, by the rows of addressing), `specs/Forms.antt`
 //! (`fields_at`, by the form of an instruction), `specs/Directives.antt` (`argument_at`), `specs/Parts.antt` (`is_end`, `all_of`),
 //! `specs/Plain.antt` (statements without the boxes of their expressions), `specs/Fault.antt` (the word for each fault); for the
 //! reader `specs/Addressing.antt` (operands by the part that they begin with).
-//! Calls: `split`; `AsmKind::text`. (`law_first_fault` and the `law_example_of_..` are empty functions, for their contracts.)
+//! Calls: `split`, `split_front`; `AsmKind::text`. (`law_first_fault` and the `law_example_of_..` are empty functions, for their contracts.)
 //! Proved: a text is split exactly into what its lines say, one statement a line, and refused exactly at its first line outside
 //! the grammar; an operand is what the first row of addressing says that reads it whole.
 //! Tested: that a text with every form is read at all, and the line of the fault of texts with several.
@@ -29,7 +29,7 @@ pub use law::{
     law_example_of_lines, law_example_of_operands, law_example_of_refusals, law_example_of_texts,
 };
 pub use operand::Operand;
-pub use splitting::{law_first_fault, split};
+pub use splitting::{Front, law_first_fault, split, split_front};
 pub use statement::{Body, Exprs, Label, Labels, Statement, Statements};
 
 #[cfg(test)]

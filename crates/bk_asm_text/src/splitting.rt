@@ -3,7 +3,7 @@
 ghost use Rattle.std.specs.Prelude.{◌≡◌, ◌+◌, ◌<◌, ◌==◌, ◌∷◌, [], map, ℕ, List, length, Ok, Err, IfOk, IfErr, IfSome, IfNone};
 ghost use Rattle.std.specs.List.{position};
 ghost use Rattle.bk_base.specs.Faults.{Gives, Refuses};
-ghost use Rattle.bk_base.specs.declared.stop.Stop.TheVariants.{Bad};
+ghost use Rattle.bk_asm_text.specs.Before.{before_fault, plain_front};
 ghost use Rattle.bk_asm_text.specs.Fault.{fault_at};
 ghost use Rattle.bk_asm_text.specs.First.{IsFirstOutside};
 ghost use Rattle.bk_asm_text.specs.Plain.{plain_statement};
@@ -13,7 +13,8 @@ ghost use Rattle.bk_asm_text.specs.declared.fault.AsmKind.TheVariants as kind;
 
 use crate::fault::{AsmFault, AsmKind, AsmStop};
 use crate::line::read_statement;
-use crate::statement::Statements;
+use crate::statement::{Statement, Statements};
+use bk_base::NoMemory;
 use std::alloc::Global;
 
 // The place of the first LF.
@@ -39,31 +40,64 @@ fn next_line(text: &[u8]) -> Option<(&[u8], &[u8])>
     })
 }
 
-fn bad(line: u32) -> AsmStop
-    ensures { result ≡ Bad (fault_at line kind.Form) }
+fn form(line: u32) -> AsmFault
+    ensures { result ≡ fault_at line kind.Form }
 {
-    AsmStop::Bad(AsmFault {
+    AsmFault {
         line,
         kind: AsmKind::Form,
-    })
+    }
 }
 
-#[tactic(auto, using(crate::proofs::Statements::statements_some, crate::proofs::Statements::statements_none, crate::proofs::Statements::statements_end))]
-fn split_lines(alloc: Global, text: &[u8]) -> Result<Statements, AsmStop>
-    ensures { Gives (map plain_statement) result (statements_of text.now) }
+fn gathered(statements: Vec<Statement>, fault: Option<AsmFault>) -> Front
+    ensures { plain_front result ≡ record { statements = map plain_statement statements.items; fault = fault } }
+{
+    Front {
+        statements: Statements::from_vec(statements),
+        fault,
+    }
+}
+
+/// The statements of the lines before the first one outside the grammar, and the fault of that line, if there is one.
+#[derive(Drop)]
+pub struct Front {
+    pub statements: Statements,
+    pub fault: Option<AsmFault>,
+}
+
+/// The statements of assembly text up to its first line outside the grammar.
+///
+/// Lines end with LF, which the last may lack. The fault has the kind `Form` and the line's number; without one these are the
+/// statements of all lines. It takes memory for the statements.
+#[tactic(auto, using(crate::proofs::Before::before_none, crate::proofs::Before::before_end))]
+pub fn split_front(alloc: Global, text: &[u8]) -> Result<Front, NoMemory>
+    ensures { IfOk result (λ front. plain_front front ≡ before_fault text.now) }
 {
     let mut statements = Vec::new(alloc);
     let mut at = 1u32;
     let mut rest = text;
     'each: while let Some((line, after)) = next_line(rest) {
-        match read_statement(alloc, at, line)? {
-            None => return Err(bad(at)),
-            Some(statement) => statements.push(statement)?,
-        }
+        let Some(statement) = read_statement(alloc, at, line)? else {
+            return Ok(gathered(statements, Some(form(at))));
+        };
+        let Ok(()) = statements.push(statement) else {
+            return Err(NoMemory);
+        };
         at = at.saturating_add(1);
         rest = after;
     }
-    Ok(Statements::from_vec(statements))
+    Ok(gathered(statements, None))
+}
+
+#[tactic(auto, using(crate::proofs::Before::statements_whole))]
+fn split_lines(alloc: Global, text: &[u8]) -> Result<Statements, AsmStop>
+    ensures { Gives (map plain_statement) result (statements_of text.now) }
+{
+    let front = split_front(alloc, text)?;
+    match front.fault {
+        None => Ok(front.statements),
+        Some(fault) => Err(AsmStop::Bad(fault)),
+    }
 }
 
 /// The statements of assembly text, one for each of its lines.
