@@ -6,8 +6,6 @@ use Rattle.bk_level.specs.Masks.{mask_of}
 use Rattle.bk_path.specs.Paths.{Path, pack}
 use Rattle.bk_object.specs.Kinds.{kind_number, blocks_or_line}
 use Rattle.bk_object.specs.Rows.{in_row}
-use Rattle.bk_object.specs.declared.kind.Kind.{Kind}
-use Rattle.bk_object.specs.declared.kind.Kind.TheVariants.{Directory, Segment, Mailbox, Line}
 use Rattle.bk_object.specs.declared.facts.Facts.{Facts}
 use Rattle.bk_object.specs.declared.modes.Modes.{Modes}
 use Rattle.bk_space.specs.declared.Mode.{Mode}

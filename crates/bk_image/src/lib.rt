@@ -5,7 +5,7 @@
 //! kind of part, its checks in their order), `specs/Image.antt` (`image_of`: the image, or the first fault),
 //! `specs/Spelling.antt` (`spelling`), `specs/Writing.antt` (`written_image`), `specs/Accepted.antt` (`IsAccepted`),
 //! `specs/Texts.antt` (the word for each fault), `specs/Example.antt`. `specs/Views.antt` says what the code keeps.
-//! Calls: `read_image`, `write_image`; `ImageField::text`; `law_no_prefix`, `law_example`.
+//! Calls: `read_image`, `write_image`, `write_with_levels`; `ImageField::text`; `law_no_prefix`, `law_example`.
 //! Proved: `read_image` gives exactly the image that the first bytes spell and their number, or exactly the first fault and
 //! its place; what is read passed all checks, and its state is secure; `write_image` gives exactly the spelling, or exactly
 //! why there is none; no image's bytes are a proper prefix of another's.
@@ -42,4 +42,4 @@ pub use bk_state::{
 pub use fault::{ImageFault, ImageField, ImageStop};
 pub use laws::{law_example, law_no_prefix};
 pub use reading::read_image;
-pub use writing::write_image;
+pub use writing::{write_image, write_with_levels};

@@ -9,7 +9,7 @@ ghost use Rattle.bk_image.specs.Spelling.{row_byte, row_bytes, object_bytes, hol
 ghost use Rattle.bk_image.specs.Writing.{windows_fit, object_fits, LevelFits, WindowFits, SubjectFits, RowFits, ObjectFits, HoldFits};
 
 use bitflags::Flags;
-use bk_level::{Level, LevelTable};
+use bk_level::Level;
 use bk_object::{Facts, Kind, Row};
 use bk_path::Path;
 use bk_space::Mode;
@@ -61,12 +61,12 @@ fn put_level(out: &mut Vec<u8>, level: Level) -> Result<(), AllocError>
     put_class(out, level.class, level.cats)
 }
 
-pub(crate) fn put_levels(out: &mut Vec<u8>, levels: &LevelTable) -> Result<(), AllocError>
+pub(crate) fn put_levels(out: &mut Vec<u8>, levels: &[Level]) -> Result<(), AllocError>
     ensures text { OnOk result (out.new.items ≡ out.old.items ++ flat_map level_bytes levels.now) }
     ensures fits { OnOk result (All LevelFits levels.now) }
 {
-    for n in 0..levels.len() {
-        put_level(out, levels.get(n).unwrap())?;
+    for level in levels {
+        put_level(out, *level)?;
     }
     Ok(())
 }

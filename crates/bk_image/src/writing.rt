@@ -11,6 +11,7 @@ use crate::fault::{ImageField, ImageStop};
 use crate::part::bad;
 use crate::put::{put_holds, put_levels, put_objects, put_subjects, put_word};
 use crate::reading::read_image;
+use bk_level::{Level, LevelTable};
 use bk_object::Kind;
 use bk_state::{Image, ObjectRec, SubjectRec};
 use std::alloc::{AllocError, Global};
@@ -55,13 +56,13 @@ fn all_objects_fit(objects: &[ObjectRec]) -> bool
 }
 
 // Whether each count holds the number of what it counts, and each field its value.
-fn counts_fit(image: &Image) -> bool
-    ensures { result ≡ counts_fit image.now }
+fn counts_fit(levels: &[Level], image: &Image) -> bool
+    ensures { result ≡ counts_fit (record image.now { levels = levels.now }) }
 {
     let subjects = image.subjects.as_slice();
     let objects = image.objects.as_slice();
-    let levels = image.levels.len();
-    subjects.len() < 256
+    levels.len() < 256
+        && subjects.len() < 256
         && image.schedule.as_slice().len() < 256
         && objects.len() < 65536
         && image.holds.as_slice().len() < 65536
@@ -95,28 +96,28 @@ fn put_counts(
     Ok(())
 }
 
-fn put_header(out: &mut Vec<u8>, image: &Image) -> Result<(), AllocError>
-    requires { IsTrue (counts_fit image.now) }
-    ensures { OnOk result (out.new.items ≡ out.old.items ++ header_bytes (header_of image.now)) }
+fn put_header(out: &mut Vec<u8>, levels: &[Level], image: &Image) -> Result<(), AllocError>
+    requires { IsTrue (counts_fit (record image.now { levels = levels.now })) }
+    ensures { OnOk result (out.new.items ≡ out.old.items ++ header_bytes (header_of (record image.now { levels = levels.now }))) }
 {
     let subjects = image.subjects.as_slice().len() as u8;
     let schedule = image.schedule.as_slice().len() as u8;
     put_turns(out, image.turns)?;
-    put_counts(out, image.levels.len(), subjects, image.lines, schedule)?;
+    put_counts(out, levels.len() as u8, subjects, image.lines, schedule)?;
     put_word(out, image.objects.as_slice().len() as u16)?;
     put_word(out, image.holds.as_slice().len() as u16)
 }
 
-// The bytes of an image whose fields fit.
+// The bytes of an image with these levels, whose fields fit.
 #[tactic(auto, unfolding(crate::specs::Spelling::spelling))]
-fn spell(alloc: Global, image: &Image) -> Result<Vec<u8>, AllocError>
-    requires { IsTrue (counts_fit image.now) }
-    ensures text { IfOk result (λ bytes. bytes.items ≡ spelling image.now) }
-    ensures fits { IfOk result (λ bytes. Fits image.now) }
+fn spell(alloc: Global, levels: &[Level], image: &Image) -> Result<Vec<u8>, AllocError>
+    requires { IsTrue (counts_fit (record image.now { levels = levels.now })) }
+    ensures text { IfOk result (λ bytes. bytes.items ≡ spelling (record image.now { levels = levels.now })) }
+    ensures fits { IfOk result (λ bytes. Fits (record image.now { levels = levels.now })) }
 {
     let mut out = Vec::new(alloc);
-    put_header(&mut out, image)?;
-    put_levels(&mut out, &image.levels)?;
+    put_header(&mut out, levels, image)?;
+    put_levels(&mut out, levels)?;
     out.extend_from_slice(image.schedule.as_slice())?;
     put_subjects(&mut out, image.subjects.as_slice())?;
     put_objects(&mut out, image.objects.as_slice())?;
@@ -124,18 +125,34 @@ fn spell(alloc: Global, image: &Image) -> Result<Vec<u8>, AllocError>
     Ok(out)
 }
 
-// The bytes, once they have been read.
+/// The bytes of the image with these levels in place of its own, of which some may stand twice: what `write_image` says of
+/// an image holds of this one.
 #[tactic(auto, unfolding(crate::specs::Writing::written_image))]
-fn checked_bytes(alloc: Global, image: &Image) -> Result<Vec<u8>, ImageStop>
-    ensures exact { Gives (λ bytes. bytes.items) result (written_image image.now) }
-    ensures fits { IfOk result (λ bytes. Fits image.now) }
+pub fn write_with_levels(
+    alloc: Global,
+    levels: &[Level],
+    image: &Image,
+) -> Result<Vec<u8>, ImageStop>
+    ensures exact { Gives (λ bytes. bytes.items) result (written_image (record image.now { levels = levels.now })) }
+    ensures fits { IfOk result (λ bytes. Fits (record image.now { levels = levels.now })) }
 {
-    if !counts_fit(image) {
+    if !counts_fit(levels, image) {
         return Err(bad(0, ImageField::Counts));
     }
-    let bytes = spell(alloc, image)?;
+    let bytes = spell(alloc, levels, image)?;
     read_image(alloc, &bytes)?;
     Ok(bytes)
+}
+
+// The levels of a table, in order.
+fn listed(alloc: Global, table: &LevelTable) -> Result<Vec<Level>, AllocError>
+    ensures { IfOk result (λ levels. levels.items ≡ table.now) }
+{
+    let mut levels = Vec::new(alloc);
+    for n in 0..table.len() {
+        levels.push(table.get(n).unwrap())?;
+    }
+    Ok(levels)
 }
 
 /// The bytes of an image: its one spelling.
@@ -148,5 +165,6 @@ pub fn write_image(alloc: Global, image: &Image) -> Result<Vec<u8>, ImageStop>
     // What is written is read again as the image, whatever follows it.
     ensures again { IfOk result (λ bytes. (more : List ℕ) → image_of (bytes.items ++ more) ≡ Ok (image.now, length bytes.items)) }
 {
-    checked_bytes(alloc, image)
+    let levels = listed(alloc, &image.levels)?;
+    write_with_levels(alloc, &levels, image)
 }

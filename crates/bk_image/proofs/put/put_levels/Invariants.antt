@@ -4,8 +4,8 @@ use Rattle.bk_image.specs.Spelling.{level_bytes}
 use Rattle.bk_image.specs.Writing.{LevelFits}
 use Rattle.bk_image.proofs.put.put_levels.Given as goal
 
-abbrev pub invariant-loop-n : goal.invariant-loop-n
-invariant-loop-n l = record {
-  text : l.out.items ≡ l.fn.out.items ++ flat_map level_bytes (take l.n l.levels);
-  fits : All LevelFits (take l.n l.levels);
+abbrev pub invariant-loop-level : goal.invariant-loop-level
+invariant-loop-level l = record {
+  text : l.out.items ≡ l.fn.out.items ++ flat_map level_bytes (take l.level-index l.levels);
+  fits : All LevelFits (take l.level-index l.levels);
 }
