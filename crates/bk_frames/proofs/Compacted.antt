@@ -1,20 +1,38 @@
 -- What is so once all segments have moved down.
-use Rattle.std.proofs.Common.{◌≡◌, ℕ, ◌+◌, ◌<◌, ◌≤◌, List, [], ◌∷◌, map, length, true, false, refl, sym, ap, subst, ◌∙◌, arith}
-use Rattle.std.specs.Prelude.{nat_lt, if◌then◌else◌}
+use Rattle.std.proofs.Common.{Bool, cond, ◌≡◌, ℕ, ◌+◌, ◌<◌, ◌≤◌, Option, Some, None, List, [], ◌∷◌, map, length, true, false, refl, sym, ap, subst, ◌∙◌, arith}
+use Rattle.std.specs.Prelude.{nat_lt, if◌then◌else◌, option_map}
 use Rattle.std.proofs.lemmas.Bool.Decides.{nat_tests}
 use Rattle.std.proofs.lemmas.List.Sums.{sum_by-cons}
-use Rattle.std.specs.Ordering.{nat_cmp}
+use Rattle.std.specs.Ordering.{nat_cmp, eq_by_cmp}
+use Rattle.std.proofs.lemmas.Option.{same_Some}
 use Rattle.std.specs.Cmp.{nat_cmp_total}
-use Rattle.std.specs.FinMap.{from_entries, nat_cmp-IsAntisymmetric}
+use Rattle.std.specs.FinMap.{find, get, from_entries, get-from_entries, same_map, nat_cmp-IsAntisymmetric}
 use Rattle.bk_base.specs.Maps.{map_values, IsDistinct}
 use Rattle.bk_base.proofs.Totals.{total_of}
 use Rattle.bk_base.proofs.Distinct.{total_of-from_entries}
 use Rattle.bk_frames.specs.declared.segments.Segment.{Segment}
-use Rattle.bk_frames.specs.Extents.{Extent, Standing, segments_of, sizes_of, words_at, blocks_below, moved_down, SameOutside, IsApart}
-use Rattle.bk_frames.specs.Segments.{IsStacked, IsFrames, compacted, words_after, entries_of, extents_of, extent_of}
-use Rattle.bk_frames.proofs.Entries.{each_of, values_is, distinct-compacted, sizes-compacted}
+use Rattle.bk_frames.specs.Extents.{Extent, Standing, segments_of, sizes_of, taken_in, words_at, blocks_below, moved_down, SameOutside, IsApart, StandsLast}
+use Rattle.bk_frames.specs.Segments.{IsStacked, compacted, total, words_after, entries_of, extents_of, extent_of}
+use Rattle.bk_frames.proofs.Entries.{each_of, values_is, distinct-compacted, free-compacted, sizes-compacted, found_within}
+use Rattle.bk_frames.specs.declared.table.Placed.{Placed}
+use Rattle.bk_frames.specs.Table.{extent_at, place_of, extents_in, IsFrames, IsFull, IsTable}
+use Rattle.bk_frames.specs.Ordered.{IsListed}
+use Rattle.bk_frames.proofs.Tables.{get-extents, place_within}
+use Rattle.bk_frames.proofs.Settled.{seen, table_apart}
+use Rattle.bk_frames.proofs.Listed.{listed-all, stacked-tight, total-compacted}
 use Rattle.bk_frames.proofs.WordsKept.{Kept, kept}
-use Rattle.bk_frames.proofs.Placed.{standing, is_apart}
+
+-- the value of frames whose segments are those of the list
+abbrev pub standing : ℕ → ℕ → ℕ → List Segment → Standing
+standing first size slots segs = record { first = first; blocks = size; slots = slots; extents = extents_of segs }
+
+-- the blocks that are taken
+total_is : (first size slots : ℕ) (segs : List Segment) → IsDistinct nat_cmp (entries_of segs) → taken_in (standing first size slots segs) ≡ total segs
+total_is first size slots segs distinct = total_of-from_entries nat_cmp nat_cmp-IsAntisymmetric nat_cmp_total (λ s e. e.blocks) (entries_of segs) distinct ∙ sums segs
+  where
+    sums : (segs : List Segment) → total_of (λ s (e : Extent). e.blocks) (entries_of segs) ≡ total segs
+    sums [] = refl
+    sums (s ∷ ss) = omega (arith, sums ss, sum_by-cons (λ (e : ℕ × Extent). e.1.blocks) (s.slot, extent_of s) (entries_of ss))
 
 -- the tests of two numbers
 not_below : (m n : ℕ) → n ≤ m → nat_lt m n ≡ false
@@ -89,36 +107,102 @@ module _ (first size slots : ℕ) (segs : List Segment) (stacked : IsStacked fir
   pub compacted-extents : extents_of (compacted first segs) ≡ map_values (moved_down v) (extents_of segs)
   compacted-extents = ap from_entries (compacted_is first first (first + size) segs stacked ∙ each_down segs) ∙ sym (values_is (moved_down v) segs)
 
--- all of it, seen from the value that the frames had
-pub record Compacting (v : Standing) (first size slots capacity : ℕ) (words after : List ℕ) (new : List Segment) : Type 0 where
-  pub frames : IsFrames first size capacity new
-  pub extents : extents_of new ≡ map_values (moved_down v) v.extents
-  pub segments : segments_of (standing first size slots new) after ≡ segments_of v words
-  pub sizes : sizes_of (standing first size slots new) ≡ sizes_of v
-  pub outside : SameOutside v words after
-  pub apart : IsApart (standing first size slots new)
+-- the map of the places is that of the list
+same_extents : (places : List (Option Placed)) (segs : List Segment) → ((s : ℕ) → find nat_cmp s (entries_of segs) ≡ option_map extent_at (place_of places s)) → extents_in places ≡ extents_of segs
+same_extents places segs same = same_map nat_cmp_total nat_cmp-IsAntisymmetric _ _ (λ s. get-extents places s ∙ sym (same s) ∙ sym (get-from_entries nat_cmp_total (entries_of segs) s))
 
-pub compacting : (v : Standing) (first size slots was capacity : ℕ) (words after : List ℕ) (old new : List Segment) → standing first size slots old ≡ v → IsFrames first size was old → length words ≡ 126976 →
-    was ≤ capacity → new ≡ compacted first old → after ≡ words_after first old words → Compacting v first size slots capacity words after new
-compacting v first size slots was capacity words after old new is_v frames full le is_new is_after =
-    subst (λ v. Compacting v first size slots capacity words after new) is_v
-    (subst (λ a. Compacting (standing first size slots old) first size slots capacity words a new) (sym is_after)
-    (subst (λ n. Compacting (standing first size slots old) first size slots capacity words (words_after first old words) n) (sym is_new) (record {
-      frames = record {
-        stacked = stacked_new;
-        distinct = distinct-compacted first old frames.distinct;
-        room = omega (arith, le, frames.room);
-        inside = frames.inside;
-      };
-      extents = compacted-extents first size slots old frames.stacked frames.distinct;
-      segments = values_is (words_at (words_after first old words)) (compacted first old) ∙ ap from_entries keeps.words_kept ∙ sym (values_is (words_at words) old);
-      sizes = values_is (λ e. e.blocks) (compacted first old) ∙ ap from_entries (sizes-compacted first old) ∙ sym (values_is (λ e. e.blocks) old);
-      outside = record { below = keeps.below; above = keeps.above };
-      apart = is_apart first size slots _ stacked_new;
-    })))
+-- a segment that moves down keeps its size
+same_size : (q : ℕ) (ss : List Segment) (at : ℕ) (e : Extent) → find nat_cmp q (entries_of (compacted at ss)) ≡ Some e → (f : Extent) → find nat_cmp q (entries_of ss) ≡ Some f → e.blocks ≡ f.blocks
+same_size q [] at e h f k = cc
+same_size q (s ∷ ss) at e h f k = by (eq_by_cmp nat_cmp q s.slot) h k (same_size q ss (at + s.blocks) e)
   where
-    keeps : Kept first (first + size) old words
-    keeps = kept first (first + size) old words frames.stacked (omega (arith, frames.inside, full))
+    by : (b : Bool) → cond b (Some (record { first = at; blocks = s.blocks })) (find nat_cmp q (entries_of (compacted (at + s.blocks) ss))) ≡ Some e → cond b (Some (extent_of s)) (find nat_cmp q (entries_of ss)) ≡ Some f →
+        (find nat_cmp q (entries_of (compacted (at + s.blocks) ss)) ≡ Some e → (f : Extent) → find nat_cmp q (entries_of ss) ≡ Some f → e.blocks ≡ f.blocks) → e.blocks ≡ f.blocks
+    by true h k rest = sym (ap (λ (x : Extent). x.blocks) (same_Some (record { first = at; blocks = s.blocks }) e h)) ∙ ap (λ (x : Extent). x.blocks) (same_Some (extent_of s) f k)
+    by false h k rest = rest h f k
 
-    stacked_new : IsStacked first (first + size) (compacted first old)
-    stacked_new = stacked-compacted first first (first + size) old (omega arith) frames.stacked
+-- all of it, seen from the value that the frames had
+pub record Compacting (v : Standing) (first size slots taken low room : ℕ) (words after : List ℕ) (places : List (Option Placed)) (owners : List (Option ℕ)) : Type 0 where
+  pub frames : IsFrames first size slots taken low places owners room
+  pub extents : extents_in places ≡ map_values (moved_down v) v.extents
+  pub segments : segments_of (seen first size slots places) after ≡ segments_of v words
+  pub sizes : sizes_of (seen first size slots places) ≡ sizes_of v
+  pub dense : (at : ℕ) → at ≡ first + taken_in (seen first size slots places) → (slot : ℕ) → StandsLast (seen first size slots places) slot at
+  pub outside : SameOutside v words after
+  pub apart : IsApart (seen first size slots places)
+
+module _ (first size slots taken low room : ℕ) (places : List (Option Placed)) (owners : List (Option ℕ)) (frames : IsFrames first size slots taken low places owners room)
+    (segs : List Segment) (listed : IsListed first (first + length owners) places segs) where
+  stacked : IsStacked first (first + size) segs
+  stacked = subst (λ n. IsStacked first (first + n) segs) frames.whole listed.stacked
+
+  stacked_new : IsStacked first (first + size) (compacted first segs)
+  stacked_new = stacked-compacted first first (first + size) segs (omega arith) stacked
+
+  -- what the tables are made of once all have moved down
+  pub now_stacked : (limit : ℕ) → limit ≡ length owners → IsStacked first (first + limit) (compacted first segs)
+  now_stacked limit is = subst (λ n. IsStacked first (first + n) (compacted first segs)) (sym frames.whole ∙ sym is) stacked_new
+
+  pub now_within : (s : ℕ) (e : Extent) → find nat_cmp s (entries_of (compacted first segs)) ≡ Some e → (s < length places) × (e.blocks ≤ 128)
+  now_within s e h = by (place_of places s) refl
+    where
+      by : (o : Option Placed) → place_of places s ≡ o → (s < length places) × (e.blocks ≤ 128)
+      by None is =
+          let none = free-compacted s first segs (listed-all first places owners frames.table segs listed s ∙ ap (option_map extent_at) is) in
+          absurd (cc (sym none ∙ h))
+      by (Some p) is =
+          let size : e.blocks ≡ p.blocks = same_size s segs first e h (extent_at p) (listed-all first places owners frames.table segs listed s ∙ ap (option_map extent_at) is) in
+          let own = frames.table.owned s p is in
+          let small = own.small in
+          (place_within places s p is, omega (arith, size, small))
+
+  pub compacting : (v : Standing) → seen first size slots places ≡ v → (words after : List ℕ) → length words ≡ 126976 → (moved : List Segment) → moved ≡ compacted first segs → after ≡ words_after first segs words →
+      (new : List (Option Placed)) (owned : List (Option ℕ)) (end room' : ℕ) → IsTable first new owned → ((s : ℕ) → find nat_cmp s (entries_of moved) ≡ option_map extent_at (place_of new s)) → IsFull owned end →
+      length new ≡ length places → length owned ≡ length owners → end ≡ total moved → room ≤ room' → Compacting v first size slots taken end room' words after new owned
+  compacting v view words after full moved is_moved is_after new owned end room' table same low same_places same_owners is_end more =
+      subst (λ v. Compacting v first size slots taken end room' words after new owned) view
+      (subst (λ a. Compacting (seen first size slots places) first size slots taken end room' words a new owned) (sym is_after) (record {
+        frames = record {
+          table = table;
+          known = same_places ∙ frames.known;
+          whole = same_owners ∙ frames.whole;
+          inside = frames.inside;
+          counted = taken_now ∙ sym taken_was ∙ frames.counted;
+          fits = frames.fits;
+          none_free = low;
+          reach = omega (arith, is_end, total_moved, taken_was, frames.counted, frames.fits);
+          enough = omega (arith, more, frames.enough);
+        };
+        extents = now_is ∙ compacted-extents first size slots segs stacked listed.distinct ∙ (λ i. map_values (moved_down (record { first = first; blocks = size; slots = slots; extents = was_is' i })) (was_is' i));
+        segments = ap (map_values (words_at (words_after first segs words))) now_is ∙ values_is (words_at (words_after first segs words)) (compacted first segs) ∙ ap from_entries keeps.words_kept ∙ sym (values_is (words_at words) segs)
+            ∙ ap (map_values (words_at words)) was_is';
+        sizes = ap (map_values (λ e. e.blocks)) now_is ∙ values_is (λ e. e.blocks) (compacted first segs) ∙ ap from_entries (sizes-compacted first segs) ∙ sym (values_is (λ e. e.blocks) segs)
+            ∙ ap (map_values (λ e. e.blocks)) was_is';
+        dense = λ at is slot s e differ h. last at is s e h;
+        outside = record { below = keeps.below; above = keeps.above };
+        apart = table_apart first size slots new owned table (same_owners ∙ frames.whole);
+      }))
+    where
+      now_is : extents_in new ≡ extents_of (compacted first segs)
+      now_is = same_extents new moved same ∙ ap extents_of is_moved
+
+      was_is' : extents_of segs ≡ extents_in places
+      was_is' = sym (same_extents places segs (listed-all first places owners frames.table segs listed))
+
+      keeps : Kept first (first + size) segs words
+      keeps = kept first (first + size) segs words stacked (omega (arith, frames.inside, full))
+
+      total_moved : total moved ≡ total segs
+      total_moved = ap total is_moved ∙ total-compacted first segs
+
+      taken_was : taken_in (seen first size slots places) ≡ total segs
+      taken_was = (λ i. taken_in (record { first = first; blocks = size; slots = slots; extents = sym was_is' i })) ∙ total_is first size slots segs listed.distinct
+
+      taken_now : taken_in (seen first size slots new) ≡ total segs
+      taken_now = (λ i. taken_in (record { first = first; blocks = size; slots = slots; extents = now_is i })) ∙ total_is first size slots (compacted first segs) (distinct-compacted first segs listed.distinct) ∙ total-compacted first segs
+
+      last : (at : ℕ) → at ≡ first + taken_in (seen first size slots new) → (s : ℕ) (e : Extent) → get (extents_in new) s ≡ Some e → e.first + e.blocks ≤ at
+      last at is s e h =
+          let found = sym (get-from_entries nat_cmp_total (entries_of (compacted first segs)) s) ∙ ap (λ m. get m s) (sym now_is) ∙ h in
+          let within = (found_within first (first + total segs) s e (compacted first segs) (stacked-tight first first (first + size) segs stacked) found).1 in
+          omega (arith, is, taken_now, within)

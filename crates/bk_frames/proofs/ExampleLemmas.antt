@@ -1,9 +1,9 @@
 -- The blocks of the example, counted over its entries.
-use Rattle.std.proofs.Common.{◌≡◌, ◌+◌, cond, ap, ◌∙◌, refl}
+use Rattle.std.proofs.Common.{◌≡◌, ◌+◌, ap, ◌∙◌, refl}
 use Rattle.std.specs.Prelude.{sum_by, nat_lt, if◌then◌else◌}
 use Rattle.std.specs.FinMap as finite
 use Rattle.std.specs.Ordering.{nat_cmp}
-use Rattle.bk_frames.specs.Extents.{Extent, blocks_below, moved_down, taken_in}
+use Rattle.bk_frames.specs.Extents.{blocks_below, moved_down, taken_in}
 use Rattle.bk_frames.specs.Example.{example, example_entries, lower, upper}
 
 pub taken : taken_in example ≡ 3

@@ -1,7 +1,8 @@
 pub mod Stacked
 pub mod WordsKept
 pub mod Entries
-pub mod Placed
-pub mod Forgotten
+pub mod Tables
+pub mod Settled
+pub mod Listed
 pub mod Compacted
 mod ExampleLemmas

@@ -5,7 +5,7 @@ use Rattle.std.specs.FinMap as finite
 use Rattle.std.specs.Ordering.{nat_cmp}
 use Rattle.bk_base.specs.Maps.{map_values}
 use Rattle.bk_core.specs.Memory.{block_words}
-use Rattle.bk_object.specs.Limits.{words_of_block}
+use Rattle.bk_object.specs.Limits.{most_blocks, words_of_block}
 
 -- the first block, and how many
 pub record Extent : Type 0 where
@@ -68,7 +68,27 @@ pub record SameOutside (frames : Standing) (old new : List ℕ) : Type 0 where
 abbrev pub AreApart : Extent → Extent → Type 0
 AreApart e f = (e.first + e.blocks ≤ f.first) ⊎ (f.first + f.blocks ≤ e.first)
 
--- each segment stands within the frames, and no two have a block in common
+-- each segment stands within the frames, with 1 to 128 blocks, and no two have a block in common
 pub record IsApart (frames : Standing) : Type 0 where
   pub within : (s : ℕ) (e : Extent) → finite.get frames.extents s ≡ Some e → (frames.first ≤ e.first) × (e.first + e.blocks ≤ frames.first + frames.blocks)
+  pub sized : (s : ℕ) (e : Extent) → finite.get frames.extents s ≡ Some e → (1 ≤ e.blocks) × (e.blocks ≤ most_blocks)
   pub apart : (s t : ℕ) (e f : Extent) → finite.get frames.extents s ≡ Some e → finite.get frames.extents t ≡ Some f → s ≢ t → AreApart e f
+
+-- so many blocks from one on are of no segment
+pub record HasRoomAt (frames : Standing) (at blocks : ℕ) : Type 0 where
+  pub above : frames.first ≤ at
+  pub within : at + blocks ≤ frames.first + frames.blocks
+  pub apart : (s : ℕ) (e : Extent) → finite.get frames.extents s ≡ Some e → AreApart (record { first = at; blocks = blocks }) e
+
+-- that place has room, and none below it has
+pub record IsLowestRoom (frames : Standing) (at blocks : ℕ) : Type 0 where
+  pub room : HasRoomAt frames at blocks
+  pub lowest : (other : ℕ) → HasRoomAt frames other blocks → at ≤ other
+
+-- no run of free blocks is long enough
+abbrev pub HasNoRoom : Standing → (blocks : ℕ) → Type 0
+HasNoRoom frames blocks = (at : ℕ) → HasRoomAt frames at blocks → ⊥
+
+-- each segment of another slot ends at the block or below it
+abbrev pub StandsLast : Standing → (slot at : ℕ) → Type 0
+StandsLast frames slot at = (s : ℕ) (e : Extent) → s ≢ slot → finite.get frames.extents s ≡ Some e → e.first + e.blocks ≤ at

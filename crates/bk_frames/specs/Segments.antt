@@ -1,9 +1,8 @@
--- A list of segments, from the lowest to the highest.
+-- A list of segments, from the lowest to the highest, in which they are moved down.
 use Rattle.std.specs.Prelude.{ℕ, ◌+◌, ◌≤◌, List, [], ◌∷◌, map}
 use Rattle.std.specs.FinMap as finite
 use Rattle.std.specs.Ordering.{nat_cmp}
-use Rattle.bk_base.specs.Maps.{IsDistinct}
-use Rattle.bk_core.specs.Memory.{blocks_of_core, slid}
+use Rattle.bk_core.specs.Memory.{slid}
 use Rattle.bk_frames.specs.declared.segments.Segment.{Segment}
 use Rattle.bk_frames.specs.Extents.{Extent}
 
@@ -42,10 +41,3 @@ total (s ∷ ss) = s.blocks + total ss
 abbrev pub words_after : ℕ → List Segment → List ℕ → List ℕ
 words_after at [] words = words
 words_after at (s ∷ ss) words = words_after (at + s.blocks) ss (slid words s.first at s.blocks)
-
--- what a list of segments keeps: its order, one place for each slot, and room for as many as there are blocks
-pub record IsFrames (first size capacity : ℕ) (segments : List Segment) : Type 0 where
-  pub stacked : IsStacked first (first + size) segments
-  pub distinct : IsDistinct nat_cmp (entries_of segments)
-  pub room : size ≤ capacity
-  pub inside : first + size ≤ blocks_of_core

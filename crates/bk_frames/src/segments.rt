@@ -1,15 +1,21 @@
-// The segments in a list, from the lowest to the highest.
+// The segments in the order in which they stand, and how they move down.
 
-ghost use Rattle.std.specs.Prelude.{◌≡◌, ℕ, ◌+◌, ◌-◌, ◌*◌, ◌<◌, ◌≤◌, ◌++◌, ◌∷◌, [], length, replicate, not, ◌==◌, filter, option_map};
+ghost use Rattle.std.specs.Prelude.{◌≡◌, ℕ, ◌+◌, ◌<◌, ◌≤◌, ◌++◌, ◌∷◌, [], length, option_map, replicate, slice_get, Some, None};
+ghost use Rattle.std.specs.Vec.{vec_capacity};
+ghost use Rattle.bk_core.specs.Memory.{blocks_of_core, slid};
+ghost use Rattle.bk_frames.specs.Segments.{IsStacked, moved_to, compacted, total, words_after};
 ghost use Rattle.std.specs.FinMap as map;
 ghost use Rattle.std.specs.Ordering.{nat_cmp};
-ghost use Rattle.std.specs.Vec.{vec_capacity};
-ghost use lib.Seq.{paste};
-ghost use Rattle.bk_core.specs.Memory.{blocks_of_core, slid};
-ghost use Rattle.bk_object.specs.Limits.{words_of_block};
-ghost use Rattle.bk_frames.specs.Segments.{IsStacked, IsFrames, moved_to, compacted, total, words_after, extents_of, entries_of};
+ghost use Rattle.bk_base.specs.Maps.{IsDistinct};
+ghost use Rattle.bk_object.specs.Limits.{most_blocks};
+ghost use Rattle.bk_frames.specs.Extents.{Extent};
+ghost use Rattle.bk_frames.specs.Segments.{entries_of};
+ghost use Rattle.bk_frames.specs.Table.{extent_at, place_of, IsFull, IsTable};
+ghost use Rattle.bk_frames.specs.Ordered.{segment_of, IsListed, IsPacked};
 
+use crate::table::{Placed, mark, place_for, put};
 use bk_core::Core;
+use bk_object::Slot;
 
 /// A segment: the number of its slot, its first block, and how many blocks it has.
 #[derive(Clone, Copy)]
@@ -19,73 +25,48 @@ pub(crate) struct Segment {
     pub(crate) blocks: u8,
 }
 
-// The extent of the slot's segment.
-pub(crate) fn look_up(segments: &[Segment], slot: u16) -> Option<(u32, u8)>
-    ensures { result ≡ option_map (λ e. (e.first, e.blocks)) (map.get (extents_of segments.now) slot) }
+// Lists the segments from the lowest to the highest; the first block of all is that one.
+pub(crate) fn list_segments(
+    segments: &mut Vec<Segment>,
+    places: &Vec<Option<Placed>>,
+    owners: &Vec<Option<u16>>,
+    first: u32,
+)
+    requires table { IsTable first places.now.items owners.now.items }
+    requires inside { first + length owners.now.items ≤ blocks_of_core }
+    requires room { length owners.now.items ≤ vec_capacity segments.old }
+    ensures listed { IsListed first (first + length owners.now.items) places.now.items segments.new.items }
+    ensures capacity { vec_capacity segments.old ≤ vec_capacity segments.new }
 {
-    scan(segments, slot)
-}
-
-// The extent of the first segment in the list that has the slot.
-fn scan(segments: &[Segment], slot: u16) -> Option<(u32, u8)>
-    ensures { result ≡ option_map (λ e. (e.first, e.blocks)) (map.find nat_cmp slot (entries_of segments.now)) }
-{
-    for segment in segments {
-        if slot == segment.slot {
-            return Some((segment.first, segment.blocks));
+    segments.clear();
+    let mut block = 0;
+    while block < owners.len() {
+        match segment_at(places, owners, block) {
+            Some(segment) => {
+                push_last(segments, segment);
+                block += segment.blocks as usize;
+            }
+            None => block += 1,
         }
     }
-    None
 }
 
-// The sum of the segments' blocks.
-pub(crate) fn total_blocks(segments: &[Segment]) -> u32
-    requires { total segments.now ≤ blocks_of_core }
-    ensures { result ≡ total segments.now }
+// The segment that has the block, if one has.
+fn segment_at(
+    places: &Vec<Option<Placed>>,
+    owners: &Vec<Option<u16>>,
+    block: usize,
+) -> Option<Segment>
+    requires { block < length owners.now.items }
+    ensures { result ≡ segment_of places.now.items owners.now.items block }
 {
-    let mut taken = 0;
-    for segment in segments {
-        taken += segment.blocks as u32;
-    }
-    taken
-}
-
-// The slot's segment is no longer in the list.
-pub(crate) fn forget(segments: &mut Vec<Segment>, slot: u16)
-    ensures items { segments.new.items ≡ filter (λ s. not (s.slot == slot)) segments.old.items }
-    ensures capacity { vec_capacity segments.old ≤ vec_capacity segments.new }
-{
-    segments.retain(|segment| segment.slot != slot);
-}
-
-// Moves all segments down, and places one more, with zeros, behind them.
-pub(crate) fn place_last(
-    segments: &mut Vec<Segment>,
-    core: &mut Core,
-    first: u32,
-    size: u32,
-    slot: u16,
-    blocks: u8,
-) -> u32
-    requires frames { IsFrames first size (vec_capacity segments.old) segments.old.items }
-    requires some { 1 ≤ blocks }
-    requires room { total segments.old.items + blocks ≤ size }
-    ensures segments { segments.new.items ≡ compacted first segments.old.items ++ record { slot = slot; first = result; blocks = blocks } ∷ [] }
-    ensures words { core.new.words ≡ paste (words_after first segments.old.items core.old.words) (words_of_block * result) (replicate (words_of_block * blocks) 0) (words_of_block * blocks) }
-    ensures end { result ≡ first + total segments.old.items }
-    ensures capacity { vec_capacity segments.old ≤ vec_capacity segments.new }
-{
-    let at = close_gaps(segments, core, first, size);
-    core.zero(at, blocks as u32);
-    push_last(
-        segments,
-        Segment {
-            slot,
-            first: at,
-            blocks,
-        },
-    );
-    at
+    let slot = owners[block]?;
+    let place = place_for(places, Slot { n: slot })?;
+    Some(Segment {
+        slot,
+        first: place.first,
+        blocks: place.blocks,
+    })
 }
 
 // Puts a segment behind all others; there is room for it.
@@ -138,4 +119,45 @@ fn moved(core: &mut Core, segment: Segment, to: u32) -> Segment
         first: to,
         ..segment
     }
+}
+
+// The segments of the list, which stand one directly behind the other, are all that the tables have from now on; gives how
+// many blocks they have.
+pub(crate) fn settle_all(
+    places: &mut Vec<Option<Placed>>,
+    owners: &mut Vec<Option<u16>>,
+    segments: &Vec<Segment>,
+    first: u32,
+) -> u32
+    requires inside { first + length owners.old.items ≤ blocks_of_core }
+    requires stacked { IsStacked first (first + length owners.old.items) segments.now.items }
+    requires packed { IsPacked first segments.now.items }
+    requires distinct { IsDistinct nat_cmp (entries_of segments.now.items) }
+    requires slots { (slot : ℕ) (e : Extent) → map.find nat_cmp slot (entries_of segments.now.items) ≡ Some e → (slot < length places.old.items) × (e.blocks ≤ most_blocks) }
+    ensures table { IsTable first places.new.items owners.new.items }
+    ensures same { (slot : ℕ) → map.find nat_cmp slot (entries_of segments.now.items) ≡ option_map extent_at (place_of places.new.items slot) }
+    ensures full { IsFull owners.new.items result }
+    ensures places { length places.new.items ≡ length places.old.items }
+    ensures owners { length owners.new.items ≡ length owners.old.items }
+    ensures end { result ≡ total segments.now.items }
+{
+    places.fill(None);
+    owners.fill(None);
+    let mut taken = 0;
+    for segment in segments {
+        put(
+            places,
+            segment.slot,
+            Some(place_at(first + taken, segment.blocks)),
+        );
+        mark(owners, taken, segment.blocks, Some(segment.slot));
+        taken += u32::from(segment.blocks);
+    }
+    taken
+}
+
+fn place_at(first: u32, blocks: u8) -> Placed
+    ensures { result ≡ record { first = first; blocks = blocks } }
+{
+    Placed { first, blocks }
 }

@@ -102,3 +102,21 @@ fn compacts_in_the_order_of_standing(rt: HostRuntime) -> Result<(), Fail> {
     assert_eq!(rt; frames.free_blocks(), 6);
     Ok(())
 }
+
+// Segments of 2, 3 and 2 blocks fill blocks 64 to 70; in the hole that the second leaves two others find room, the lowest
+// first, and the third still stands where it stood.
+#[test]
+fn places_in_the_lowest_hole_and_moves_no_other(rt: HostRuntime) -> Result<(), Fail> {
+    let mut core = Core::reserve(rt.alloc()).ok().ok_or("memory")?;
+    let mut frames = Frames::reserve(rt.alloc(), 64, 8, 8).ok().ok_or("memory")?;
+    for (n, blocks, first) in [(0, 2, 64), (1, 3, 66), (2, 2, 69)] {
+        assert_eq!(rt; place(&mut frames, &mut core, n, blocks), Some(first));
+    }
+    frames.free(Slot { n: 1 });
+    for (n, blocks, first) in [(3, 2, 66), (4, 1, 68)] {
+        assert_eq!(rt; place(&mut frames, &mut core, n, blocks), Some(first));
+    }
+    assert_eq!(rt; frames.extent(Slot { n: 2 }), Some((69, 2)));
+    assert_eq!(rt; frames.free_blocks(), 1);
+    Ok(())
+}

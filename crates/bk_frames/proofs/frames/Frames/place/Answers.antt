@@ -1,23 +1,16 @@
-use Rattle.bk_frames.proofs.Placed.{room_for, placing}
+use Rattle.std.proofs.Common.{◌∙◌, ap}
+use Rattle.std.specs.FinMap.{get}
+use Rattle.bk_frames.proofs.Settled.{there_inserted}
 use Rattle.bk_frames.proofs.frames.Frames.place.Goals as goal
 
-pub place_last-requires-clause-room : goal.place_last-requires-clause-room
-place_last-requires-clause-room c = room_for c.args.self.now c.self.inside.first c.self.inside.blocks c.self.inside.slots _ c.args.blocks c.self.inside.segments.items c.self.view_is c.self.invariant c.requires.some c.requires.room
+pub returns-in-Some-clause-here : goal.returns-in-Some-clause-here
+returns-in-Some-clause-here c = ap (λ m. get m c.args.slot.n) c.settle.ensures.extents ∙ there_inserted c.args.self.now.extents c.args.slot.n _
 
-pub invariant_of-self : goal.invariant_of-self
-invariant_of-self c = (placing _ _ _ _ _ _ _ _ _ _ _ _ _ c.self.view_is c.self.invariant c.args.core.now.full c.requires.some c.requires.room (cc) c.place_last.ensures.capacity c.place_last.ensures.end c.place_last.ensures.segments c.place_last.ensures.words).frames
+pub returns-in-Some-clause-lowest : goal.returns-in-Some-clause-lowest
+returns-in-Some-clause-lowest c = λ at has. (c.in-Some.ensures.some, c.settle.ensures.extents)
 
-pub returns-clause-segments : goal.returns-clause-segments
-returns-clause-segments c = (placing _ _ _ _ _ _ _ _ _ _ _ _ _ c.self.view_is c.self.invariant c.args.core.now.full c.requires.some c.requires.room (cc) c.place_last.ensures.capacity c.place_last.ensures.end c.place_last.ensures.segments c.place_last.ensures.words).segments
+pub returns-in-Some-clause-behind : goal.returns-in-Some-clause-behind
+returns-in-Some-clause-behind c = λ none. absurd (none c.in-Some.at c.in-Some.ensures.some.room)
 
-pub returns-clause-sizes : goal.returns-clause-sizes
-returns-clause-sizes c = (placing _ _ _ _ _ _ _ _ _ _ _ _ _ c.self.view_is c.self.invariant c.args.core.now.full c.requires.some c.requires.room (cc) c.place_last.ensures.capacity c.place_last.ensures.end c.place_last.ensures.segments c.place_last.ensures.words).sizes
-
-pub returns-clause-here : goal.returns-clause-here
-returns-clause-here c = (placing _ _ _ _ _ _ _ _ _ _ _ _ _ c.self.view_is c.self.invariant c.args.core.now.full c.requires.some c.requires.room (cc) c.place_last.ensures.capacity c.place_last.ensures.end c.place_last.ensures.segments c.place_last.ensures.words).here
-
-pub returns-clause-outside : goal.returns-clause-outside
-returns-clause-outside c = (placing _ _ _ _ _ _ _ _ _ _ _ _ _ c.self.view_is c.self.invariant c.args.core.now.full c.requires.some c.requires.room (cc) c.place_last.ensures.capacity c.place_last.ensures.end c.place_last.ensures.segments c.place_last.ensures.words).outside
-
-pub returns-clause-apart : goal.returns-clause-apart
-returns-clause-apart c = (placing _ _ _ _ _ _ _ _ _ _ _ _ _ c.self.view_is c.self.invariant c.args.core.now.full c.requires.some c.requires.room (cc) c.place_last.ensures.capacity c.place_last.ensures.end c.place_last.ensures.segments c.place_last.ensures.words).apart
+pub returns-in-None-clause-lowest : goal.returns-in-None-clause-lowest
+returns-in-None-clause-lowest c = λ at has. absurd (c.in-None.ensures.none at has)
