@@ -63,6 +63,7 @@ module _ (levels : List Level) (lines : ℕ) (tree : Objects) (held : Held) (tab
 
   pub extents_apart : AreExtentsApart (store_of levels lines tree held tables)
   extents_apart = record {
+    sized = λ p x h. extent_there p x h (λ a is stands. keeps.extents.apart.sized a.slot x stands);
     within = λ p x h. extent_there p x h (λ a is stands. let w = keeps.extents.apart.within a.slot x stands in (omega (arith, w.0, keeps.extents.first), omega (arith, w.1, keeps.extents.first, keeps.extents.blocks)));
     apart = λ p q x y h k differ. extent_there p x h (λ a is_a at_a. extent_there q y k (λ b is_b at_b. keeps.extents.apart.apart a.slot b.slot x y at_a at_b
         (λ same. differ (keeps.slots.own p q b.slot (ap (option_map (λ (z : Placed). z.slot)) is_a ∙ ap Some same) (ap (option_map (λ (z : Placed). z.slot)) is_b)))));

@@ -163,6 +163,7 @@ module _ (levels : List Level) (lines slots : ℕ) (root : Facts) where
       unowned = λ k none. nothing_stands k;
       taken = no_blocks ∙ sym (taken_none directory);
       apart = record {
+        sized = λ s e h. no_extent s e h;
         within = λ s e h. no_extent s e h;
         apart = λ s t e f h k differ. no_extent s e h;
       };

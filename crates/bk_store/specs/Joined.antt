@@ -13,7 +13,7 @@ use Rattle.bk_access.specs.Held.{Held, holds, modes_at}
 use Rattle.bk_object.specs.declared.Facts.{Facts}
 use Rattle.bk_object.specs.declared.kind.Kind.{Kind}
 use Rattle.bk_object.specs.declared.kind.Kind.TheVariants.{Directory, Segment, Mailbox, Line}
-use Rattle.bk_object.specs.Limits.{largest_quota, words_of_block}
+use Rattle.bk_object.specs.Limits.{largest_quota, most_blocks, words_of_block}
 use Rattle.bk_object.specs.Modes.{no_modes}
 use Rattle.bk_object.specs.Rows.{most_subjects}
 use Rattle.bk_core.specs.Memory.{blocks_of_core, kernel_blocks}
@@ -183,7 +183,8 @@ FitsKind (Line n) blocks extent queue = (extent ≡ None) × ((bytes : List ℕ)
 abbrev pub HaveKinds : Stored → Type 0
 HaveKinds v = (path : Path) (e : Entry) → finite.get v.objects path ≡ Some e → FitsKind e.facts.kind e.facts.blocks e.extent e.queue
 
--- segments stand within the blocks of core above the kernel's, and no two have a block in common
+-- segments have 1 to 128 blocks each, stand within the blocks of core above the kernel's, and no two have a block in common
 pub record AreExtentsApart (v : Stored) : Type 0 where
+  pub sized : (path : Path) (e : Extent) → extent_in v path ≡ Some e → (1 ≤ e.blocks) × (e.blocks ≤ most_blocks)
   pub within : (path : Path) (e : Extent) → extent_in v path ≡ Some e → (kernel_blocks ≤ e.first) × (e.first + e.blocks ≤ blocks_of_core)
   pub apart : (p q : Path) (e f : Extent) → extent_in v p ≡ Some e → extent_in v q ≡ Some f → p ≢ q → AreApart e f
