@@ -1,0 +1,12 @@
+use Rattle.std.proofs.Common.{Option, Some, slice_set, sym, ap, ◌∙◌}
+use Rattle.bk_path.specs.Paths.{Path}
+use Rattle.bk_pages.specs.Pages.{page_for}
+use Rattle.bk_pages.proofs.Setting.{page-set}
+use Rattle.bk_pages.proofs.pages.set_page.Goals as goal
+
+pub returns-in-Some-extent-clause-page : goal.returns-in-Some-extent-clause-page
+returns-in-Some-extent-clause-page c =
+    c.load_page.ensures.page
+    ∙ ap (slice_set c.args.machine.now.pages.registers c.args.window) (page-set c.args.store.now c.args.subject c.args.window c.in-Some.path c.in-Some-extent.first c.in-Some-extent.size c.held.result c.rights_by-rights.result
+    (sym c.extent.ensures.value ∙ c.in-Some-extent.is) c.held.ensures c.rights_by-rights.ensures
+    ∙ ap (λ (shown : Option Path). page_for c.args.store.now c.args.subject c.args.window (Some shown)) (sym c.in-Some.is))
