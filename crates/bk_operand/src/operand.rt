@@ -98,10 +98,9 @@ fn step_down(width: Width, reg: u8) -> i8
     }
 }
 
-/// Finds the place of an operand: index words and pointers are read, and a register that moves is
-/// noted. An abort is the bus's own.
+// The place of an operand by any mode. It stays out of line: the operand that is a register is found without it.
 #[tactic(auto, using(bk_space::proofs::CountLemmas::counted_lemmas), unfolding(crate::specs::Operand::located))]
-pub fn locate<B: Bus>(
+fn locate_there<B: Bus>(
     regs: &mut Regs,
     undo: &mut Undo,
     bus: &mut B,
@@ -157,8 +156,40 @@ pub fn locate<B: Bus>(
     }
 }
 
+/// Finds the place of an operand: index words and pointers are read, and a register that moves is
+/// noted. An abort is the bus's own.
+#[inline(always)]
+#[tactic(auto, using(bk_space::proofs::CountLemmas::counted_lemmas), unfolding(crate::specs::Operand::located))]
+pub fn locate<B: Bus>(
+    regs: &mut Regs,
+    undo: &mut Undo,
+    bus: &mut B,
+    field: Field,
+    width: Width,
+) -> Result<Place, Abort>
+    requires mode { field.mode < 8 }
+    requires reg { field.reg < 8 }
+    requires room { HasRoom undo.old }
+    ensures place { Follows (λ x. x) result regs.new (located (B.shown (B.state bus.old)) width field regs.old) }
+    ensures count { B.references bus.new ≡ counted_on (B.references bus.old) (located (B.shown (B.state bus.old)) width field regs.old).made }
+    ensures state { B.state bus.new ≡ B.state bus.old }
+    ensures known { IfOk result IsPlace }
+
+    // At most one note more, also at an abort; and the notes still tell all that has moved but the PC.
+    ensures room { IsFresh undo.old → HasRoom undo.new }
+    ensures undone { undone undo.new regs.new ≡ undone undo.old regs.old }
+    ensures alone { (before : Registers) → HasMoved undo.old before regs.old → HasMoved undo.new before regs.new }
+{
+    if field.mode == 0 {
+        Ok(Place::Reg(field.reg))
+    } else {
+        locate_there(regs, undo, bus, field, width)
+    }
+}
+
 /// The value of an operand. Of a register a byte is the low byte. An abort is the bus's own.
 #[tactic(auto, using(bk_space::proofs::CountLemmas::counted_lemmas), unfolding(crate::specs::Operand::fetched, crate::specs::Part::reading))]
+#[inline(always)]
 pub fn fetch<B: Bus>(regs: &Regs, bus: &mut B, place: Place, width: Width) -> Result<u16, Abort>
     requires known { IsPlace place }
     ensures value { Follows (λ x. x) result regs.now (fetched (B.shown (B.state bus.old)) width place regs.now) }
@@ -172,7 +203,7 @@ pub fn fetch<B: Bus>(regs: &Regs, bus: &mut B, place: Place, width: Width) -> Re
             Width::Byte => Ok(regs.reg(r) % 256),
         },
         Place::Mem { space, addr } => match width {
-            Width::Word => bus.read_word(regs.ps.mode, space, addr),
+            Width::Word => Ok(bus.read_word(regs.ps.mode, space, addr)?),
             Width::Byte => Ok(u16::from(bus.read_byte(regs.ps.mode, space, addr)?)),
         },
     }
@@ -181,6 +212,7 @@ pub fn fetch<B: Bus>(regs: &Regs, bus: &mut B, place: Place, width: Width) -> Re
 /// Stores a result. In a register a byte changes the low byte alone. An abort is the bus's own, and
 /// then nothing has changed but the count of references.
 #[tactic(auto, using(bk_space::proofs::CountLemmas::counted_lemmas), unfolding(crate::specs::Operand::stored, crate::specs::Part::writing))]
+#[inline(always)]
 pub fn store<B: Bus>(
     regs: &mut Regs,
     bus: &mut B,
