@@ -1,2 +1,3 @@
 pub mod CountSets
 pub mod PageLemmas
+pub mod TopBits

@@ -4,6 +4,9 @@ use Rattle.bk_space.specs.declared.registers.Regs.{Regs}
 use Rattle.bk_space.specs.AddrSpace.{Write, applied}
 use Rattle.bk_operand.specs.Part.{Part}
 use Rattle.bk_exec.specs.declared.ending.Ending.{Ending}
+use Rattle.bk_exec.specs.declared.ending.Ending.TheVariants as ending
+use Rattle.bk_cpu.specs.declared.outcome.Outcome.{Outcome}
+use Rattle.bk_cpu.specs.declared.outcome.Outcome.TheVariants.{Completed, Returned, Called, Broke, Interrupted, Trapped, CutOff}
 use Rattle.bk_exec.specs.Given.{Given}
 
 -- how an instruction ends and what it leaves, without its write
@@ -20,3 +23,13 @@ Reaches (Err cause) regs part = ended part.outcome ≡ Err cause
 abbrev pub left_by : {S : Type 0} → (S → Write → S) → S → Result (Given × Regs) Cause → S
 left_by after state (Ok x) = applied after state x.0.0
 left_by after state (Err cause) = state
+
+-- an outcome as a result
+abbrev pub result_of : Outcome → Result Ending Cause
+result_of Completed = Ok ending.Completed
+result_of Returned = Ok ending.Returned
+result_of (Called n) = Ok (ending.Called n)
+result_of Broke = Ok ending.Broke
+result_of Interrupted = Ok ending.Interrupted
+result_of Trapped = Ok ending.Trapped
+result_of (CutOff cause) = Err cause

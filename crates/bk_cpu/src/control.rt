@@ -12,6 +12,7 @@ use bk_isa::Cond;
 use bk_operand::{Place, locate};
 use bk_space::{Bus, Cause, Field, Flags, Regs, Space, Undo, Width};
 
+#[inline(always)]
 fn is_branch_taken(cond: Cond, f: Flags) -> bool
     ensures { result ≡ is_taken cond f }
 {
@@ -35,6 +36,7 @@ fn is_branch_taken(cond: Cond, f: Flags) -> bool
 }
 
 // Where a branch leads: the offset is a signed number of words.
+#[inline(always)]
 fn target_of(pc: u16, offset: u8) -> u16
     ensures { result ≡ target pc offset }
 {
@@ -47,6 +49,7 @@ fn target_of(pc: u16, offset: u8) -> u16
 }
 
 /// A branch.
+#[inline(always)]
 #[tactic(auto, unfolding(bk_exec::specs::Control::branched))]
 pub(crate) fn branch(regs: &mut Regs, cond: Cond, offset: u8)
     ensures { regs.new ≡ branched cond offset regs.old }

@@ -14,6 +14,7 @@ use bk_space::{Bus, Cause, Field, Regs, Undo, Width};
 use bk_word::binary;
 
 // CMP and BIT.
+#[inline(always)]
 #[tactic(auto, using(bk_space::proofs::CountLemmas::counted_lemmas), unfolding(bk_exec::specs::Operands::comparing))]
 fn compare<B: Bus>(
     regs: &mut Regs,
@@ -40,6 +41,7 @@ fn compare<B: Bus>(
 }
 
 // BIC, BIS, ADD and SUB.
+#[inline(always)]
 #[tactic(auto, using(bk_space::proofs::CountLemmas::counted_lemmas), unfolding(bk_exec::specs::Operands::combining))]
 fn combine<B: Bus>(
     regs: &mut Regs,
@@ -67,6 +69,7 @@ fn combine<B: Bus>(
 }
 
 /// An instruction with two fields.
+#[inline(always)]
 #[tactic(auto, unfolding(bk_exec::specs::Operands::double_of))]
 pub(crate) fn double<B: Bus>(
     regs: &mut Regs,

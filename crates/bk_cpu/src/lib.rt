@@ -1,7 +1,7 @@
 //! One instruction over any bus, and a plain bus.
 //!
 //! Model: `exec` of `bk_exec`; `specs/Pages.antt` (`pages_of`), `specs/Plain.antt` (`Plain`, `page_in`, `pages_written`) for the
-//! plain bus, and `specs/Reached.antt` (`Reaches`, `left_by`) for the parts of `step`.
+//! plain bus, and `specs/Reached.antt` (`Reaches`, `left_by`, `result_of`) for the parts of `step`.
 //! Calls: `step`; `PlainBus::new`, `set_page`, `words`, `references`, and those of `Bus`.
 //! Proved: `step` gives the definition's registers, write, number of references and event, over any bus, for every
 //! instruction word; the plain bus is one, and its count of references stands at its last value.
@@ -16,12 +16,14 @@ mod extending;
 mod law;
 mod moving;
 mod operands;
+mod outcome;
 mod page;
 mod plain;
 mod previous;
 mod singles;
 mod stack;
 mod stepping;
+mod words;
 
 pub use bk_exec::Event;
 pub use law::law_example_of_counts;

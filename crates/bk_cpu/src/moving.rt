@@ -44,6 +44,7 @@ fn extend(width: Width, to: Place, value: u16) -> u16
 }
 
 // MOV from the destination's place on: it is written and not read.
+#[inline(always)]
 #[tactic(auto, unfolding(bk_exec::specs::Operands::moved_to))]
 fn move_to_place<B: Bus>(
     regs: &mut Regs,
@@ -66,6 +67,7 @@ fn move_to_place<B: Bus>(
 }
 
 /// MOV.
+#[inline(always)]
 #[tactic(auto, using(bk_space::proofs::CountLemmas::counted_lemmas), unfolding(bk_exec::specs::Operands::moving))]
 pub(crate) fn move_value<B: Bus>(
     regs: &mut Regs,

@@ -12,6 +12,7 @@ use bk_space::{Abort, Bus, Field, Regs, Undo, Width};
 
 /// The source's value, and the destination's place. The source is fetched whole before the destination's
 /// address is formed, so that (R)+ as destination sees R already stepped.
+#[inline(always)]
 #[tactic(auto, using(bk_space::proofs::CountLemmas::counted_lemmas), unfolding(bk_exec::specs::Operands::sourced))]
 pub(crate) fn operands<B: Bus>(
     regs: &mut Regs,

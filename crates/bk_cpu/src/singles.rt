@@ -12,6 +12,7 @@ use bk_space::{Bus, Cause, Field, Regs, Undo, Width};
 use bk_word::{binary, unary};
 
 // CLR and SXT.
+#[inline(always)]
 #[tactic(auto, using(bk_space::proofs::CountLemmas::counted_lemmas), unfolding(bk_exec::specs::Operands::setting))]
 fn set<B: Bus>(
     regs: &mut Regs,
@@ -37,6 +38,7 @@ fn set<B: Bus>(
 }
 
 // TST.
+#[inline(always)]
 #[tactic(auto, using(bk_space::proofs::CountLemmas::counted_lemmas), unfolding(bk_exec::specs::Operands::testing))]
 fn test<B: Bus>(
     regs: &mut Regs,
@@ -60,6 +62,7 @@ fn test<B: Bus>(
 }
 
 // The others with one field.
+#[inline(always)]
 #[tactic(auto, using(bk_space::proofs::CountLemmas::counted_lemmas), unfolding(bk_exec::specs::Operands::changing))]
 fn change<B: Bus>(
     regs: &mut Regs,
@@ -86,6 +89,7 @@ fn change<B: Bus>(
 }
 
 /// An instruction with one field.
+#[inline(always)]
 #[tactic(auto, unfolding(bk_exec::specs::Operands::single_of))]
 pub(crate) fn single<B: Bus>(
     regs: &mut Regs,

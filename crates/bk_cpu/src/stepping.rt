@@ -3,22 +3,24 @@ ghost use Rattle.bk_space.specs.AddrSpace.{applied};
 ghost use Rattle.bk_space.specs.Counts.{counted_on};
 ghost use Rattle.bk_space.specs.Undo.{undone, IsFresh};
 ghost use Rattle.bk_isa.specs.Codes.{IsListed};
-ghost use Rattle.bk_exec.specs.Exec.{executed, running, event_of, exec};
-ghost use Rattle.bk_cpu.specs.Reached.{Reaches, left_by};
+ghost use Rattle.bk_exec.specs.Exec.{executed, running, exec};
+ghost use Rattle.bk_cpu.specs.Reached.{Reaches, left_by, result_of};
 
 use crate::control::{branch, call, codes, jump, mark, resume, resume_untraced, return_by};
 use crate::doubles::double;
 use crate::extending::{extended, subtract_one_and_branch};
+use crate::outcome::Outcome;
 use crate::previous::{move_from, move_to};
 use crate::singles::{exclusive_or, single};
+use crate::words::execute_word;
 use bk_exec::{Ending, Event};
-use bk_isa::{Instr, decode};
+use bk_isa::Instr;
 use bk_operand::next_word;
 use bk_space::{Bus, Cause, Regs, Undo};
 
-// An instruction that has been fetched.
+/// An instruction that has been fetched.
 #[tactic(auto, using(crate::proofs::CountSets::no_part), unfolding(bk_exec::specs::Exec::executed))]
-fn execute<B: Bus>(
+pub(crate) fn execute<B: Bus>(
     regs: &mut Regs,
     undo: &mut Undo,
     bus: &mut B,
@@ -71,43 +73,24 @@ fn execute<B: Bus>(
 }
 
 // Fetches the instruction word, and executes it.
+#[inline(always)]
 #[tactic(auto, using(bk_space::proofs::CountLemmas::counted_lemmas), unfolding(bk_exec::specs::Exec::running, bk_exec::specs::Exec::executed))]
-fn run<B: Bus>(regs: &mut Regs, undo: &mut Undo, bus: &mut B) -> Result<Ending, Cause>
+fn run<B: Bus>(regs: &mut Regs, undo: &mut Undo, bus: &mut B) -> Outcome
     requires fresh { IsFresh undo.old }
-    ensures reaches { Reaches result regs.new (running (B.shown (B.state bus.old)) regs.old) }
+    ensures reaches { Reaches (result_of result) regs.new (running (B.shown (B.state bus.old)) regs.old) }
     ensures count { B.references bus.new ≡ counted_on (B.references bus.old) (running (B.shown (B.state bus.old)) regs.old).made }
     ensures state { B.state bus.new ≡ left_by B.after (B.state bus.old) (running (B.shown (B.state bus.old)) regs.old).outcome }
-    ensures undone { OnErr result (undone undo.new regs.new ≡ undone undo.old regs.old) }
+    ensures undone { OnErr (result_of result) (undone undo.new regs.new ≡ undone undo.old regs.old) }
 {
-    let word = next_word(regs, bus)?;
-    match decode(word) {
-        None => Err(Cause::Reserved),
-        Some(instr) => execute(regs, undo, bus, instr),
-    }
-}
-
-// How an instruction that has completed ends, by T after it.
-fn event(ending: Ending, trace: bool) -> Event
-    ensures { result ≡ event_of ending trace }
-{
-    match ending {
-        Ending::Completed => {
-            if trace {
-                Event::Fault(Cause::Break)
-            } else {
-                Event::Ran
-            }
-        }
-        Ending::Returned => Event::Ran,
-        Ending::Called(n) => Event::Call(n),
-        Ending::Broke => Event::Fault(Cause::Break),
-        Ending::Interrupted => Event::Fault(Cause::Iot),
-        Ending::Trapped => Event::Fault(Cause::Trap),
+    match next_word(regs, bus) {
+        Ok(word) => execute_word(regs, undo, bus, word),
+        Err(abort) => Outcome::CutOff(Cause::from(abort)),
     }
 }
 
 /// One instruction. At a fault 0 to 4 the registers are restored by the notes of `Undo`, and nothing
 /// is written.
+#[inline(always)]
 #[tactic(auto, using(bk_space::proofs::UndoneLemmas::undone_lemmas), unfolding(bk_exec::specs::Exec::exec))]
 pub fn step<B: Bus>(regs: &mut Regs, bus: &mut B) -> Event
     ensures regs { regs.new ≡ (exec (B.shown (B.state bus.old)) regs.old).regs }
@@ -117,8 +100,19 @@ pub fn step<B: Bus>(regs: &mut Regs, bus: &mut B) -> Event
 {
     let mut undo = Undo::new(regs);
     match run(regs, &mut undo, bus) {
-        Ok(ending) => event(ending, regs.ps.trace),
-        Err(cause) => {
+        Outcome::Completed => {
+            if regs.ps.trace {
+                Event::Fault(Cause::Break)
+            } else {
+                Event::Ran
+            }
+        }
+        Outcome::Returned => Event::Ran,
+        Outcome::Called(n) => Event::Call(n),
+        Outcome::Broke => Event::Fault(Cause::Break),
+        Outcome::Interrupted => Event::Fault(Cause::Iot),
+        Outcome::Trapped => Event::Fault(Cause::Trap),
+        Outcome::CutOff(cause) => {
             undo.restore(regs);
             Event::Fault(cause)
         }
