@@ -12,7 +12,8 @@ use Rattle.bk_mmu.specs.ActivePages.{ActivePage, loaded, non_resident}
 
 -- what may be done in a window with the object at the path, by what the subject holds now
 abbrev pub rights_held : Stored → (subject window : ℕ) → Path → Rights
-rights_held store subject window path = rights_by (is_data window) (holds store subject path Read) (holds store subject path Execute) (holds store subject path Write)
+rights_held store subject window path =
+    rights_by (is_data window) (holds store subject path Read) (holds store subject path Execute) (holds store subject path Write)
 
 -- the registers of the page over an extent, with these rights; none where nothing has its words there
 abbrev pub page_over : Option Extent → Rights → ActivePage

@@ -56,9 +56,12 @@ pub fn fault(
     requires loaded { IsLoaded machine.old store.now subject process.old }
     ensures number { result.number ≡ fault_number cause }
     ensures pc { result.pc ≡ process.old.registers.pc }
-    ensures taken { (v : State) → StandsFor store.now machine.old.core.words v → result.taken ≡ is_reflected v subject process.old (slice_index process.old.entries (fault_number cause)) }
-    ensures process { process.new ≡ (if result.taken then entered process.old (slice_index process.old.entries (fault_number cause)) else record process.old { status = Stopped (fault_number cause) }) }
-    ensures state { (v : State) → StandsFor store.now machine.old.core.words v → StandsFor store.now machine.new.core.words (if result.taken then with_pushes v process.old else v) }
+    ensures taken { (v : State) → StandsFor store.now machine.old.core.words v →
+        result.taken ≡ is_reflected v subject process.old (slice_index process.old.entries (fault_number cause)) }
+    ensures process { process.new ≡ (if result.taken then entered process.old (slice_index process.old.entries (fault_number cause))
+        else record process.old { status = Stopped (fault_number cause) }) }
+    ensures state { (v : State) → StandsFor store.now machine.old.core.words v →
+        StandsFor store.now machine.new.core.words (if result.taken then with_pushes v process.old else v) }
     ensures references { result.references ≡ (if result.taken then 2 else 0) }
     ensures few { result.references ≤ 2 }
     ensures counted { machine.new.references ≡ counted_on machine.old.references result.references }

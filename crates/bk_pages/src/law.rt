@@ -12,7 +12,8 @@ use bk_store::Store;
 /// What the pages so set show is the space of the subject, in each state that the store stands for with the words of core: no
 /// window beside what is held decides. (There are at most 32 windows.)
 pub fn law_space(store: &Store)
-    ensures { (words : List ℕ) (v : State) (subject : ℕ) (windows : List (Option Path)) → length windows ≤ pages → StandsFor store.now words v → shown_in (paged (pages_for store.now subject windows) words) ≡ space_of v subject windows }
+    ensures { (words : List ℕ) (v : State) (subject : ℕ) (windows : List (Option Path)) → length windows ≤ pages →
+        StandsFor store.now words v → shown_in (paged (pages_for store.now subject windows) words) ≡ space_of v subject windows }
 {
     store.law_contents();
 }

@@ -46,17 +46,21 @@ fn push(machine: &mut Machine, addr: u16, value: u16)
     let _ = machine.write_word(Mode::Supervisor, Space::D, addr, value);
 }
 
-// Pushes the status, and then the program counter, where there is room for both.
-fn push_both(machine: &mut Machine, regs: &Regs)
-    requires { has_room (bus_of machine.old) regs.now ≡ true }
-    ensures written { bus_of machine.new ≡ with_both (bus_of machine.old) regs.now }
-    ensures count { machine.new.references ≡ counted_on machine.old.references 2 }
+// Pushes the status, and then the program counter, where there is room for both, with a reference each; else nothing changes.
+fn push_both(machine: &mut Machine, regs: &Regs) -> bool
+    ensures room { result ≡ has_room (bus_of machine.old) regs.now }
+    ensures written { bus_of machine.new ≡ (if result then with_both (bus_of machine.old) regs.now else bus_of machine.old) }
+    ensures count { machine.new.references ≡ counted_on machine.old.references (if result then 2 else 0) }
     ensures kernel { kernel_words machine.new.core.words ≡ kernel_words machine.old.core.words }
     ensures rest { KeepsRest machine.old machine.new }
 {
+    if !has_room(machine, regs) {
+        return false;
+    }
     let stack = regs.supervisor;
     push(machine, stack.wrapping_sub(2), regs.ps.word());
     push(machine, stack.wrapping_sub(4), regs.pc);
+    true
 }
 
 /// Takes a fault at its entry, where the process takes it there: it is in user mode, the entry isn't 0, and the two words
@@ -76,10 +80,12 @@ pub(crate) fn reflect(machine: &mut Machine, process: &mut Process, entry: u16) 
     ensures runs { machine.new.runs ≡ machine.old.runs }
     ensures last { machine.new.last ≡ machine.old.last }
 {
-    if !(takes(process.registers.ps.mode, entry) && has_room(machine, &process.registers)) {
+    if !takes(process.registers.ps.mode, entry) {
         return false;
     }
-    push_both(machine, &process.registers);
+    if !push_both(machine, &process.registers) {
+        return false;
+    }
     enter(process, entry);
     machine.set_process(&process.registers);
     true

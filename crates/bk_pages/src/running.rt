@@ -47,10 +47,15 @@ fn run_and_leave(machine: &mut Machine) -> Event
 pub fn run(machine: &mut Machine, store: &Store, subject: u8, process: &Process) -> Event
     requires subject { subject < most_subjects }
     requires loaded { IsLoaded machine.old store.now subject (kept_in machine.old process.now) }
-    ensures event { (v : State) → StandsFor store.now machine.old.core.words v → result ≡ (exec (space_of v subject process.now.windows) machine.old.process).outcome }
-    ensures registers { (v : State) → StandsFor store.now machine.old.core.words v → machine.new.process ≡ (exec (space_of v subject process.now.windows) machine.old.process).regs }
-    ensures references { (v : State) → StandsFor store.now machine.old.core.words v → machine.new.references ≡ counted_on machine.old.references (exec (space_of v subject process.now.windows) machine.old.process).references }
-    ensures state { (v : State) → StandsFor store.now machine.old.core.words v → StandsFor store.now machine.new.core.words (applied (written process.now.windows) v (exec (space_of v subject process.now.windows) machine.old.process).write) }
+    ensures event { (v : State) → StandsFor store.now machine.old.core.words v →
+        result ≡ (exec (space_of v subject process.now.windows) machine.old.process).outcome }
+    ensures registers { (v : State) → StandsFor store.now machine.old.core.words v →
+        machine.new.process ≡ (exec (space_of v subject process.now.windows) machine.old.process).regs }
+    ensures references { (v : State) → StandsFor store.now machine.old.core.words v →
+        machine.new.references ≡ counted_on machine.old.references (exec (space_of v subject process.now.windows) machine.old.process).references }
+    ensures state { (v : State) → StandsFor store.now machine.old.core.words v →
+        StandsFor store.now machine.new.core.words (applied (written process.now.windows) v
+        (exec (space_of v subject process.now.windows) machine.old.process).write) }
     ensures loaded { IsLoaded machine.new store.now subject (kept_in machine.new process.now) }
     ensures runs { machine.new.runs ≡ counted_on machine.old.runs 1 }
     ensures last { machine.new.last ≡ Some (record { before = machine.old.process; after = machine.new.process; event = result }) }

@@ -2,7 +2,7 @@ use Rattle.std.proofs.Common.{◌≡◌, ◌<◌, ◌≤◌, ℕ}
 use Rattle.std.specs.Prelude.{slice_get}
 use Rattle.bk_mmu.specs.ActivePages.{active_page, non_resident}
 use Rattle.bk_pages.specs.Pages.{page_for}
-use Rattle.bk_pages.proofs.pages.set_pages.Given as goal
+use Rattle.bk_pages.proofs.pages.set_each.Given as goal
 
 -- the pages of the windows that were looked at are set, the others are not there; nothing else has changed
 abbrev pub invariant-loop-window : goal.invariant-loop-window

@@ -1,17 +1,17 @@
-use Rattle.std.proofs.Common.{ℕ, slice_get, sym, ap, ◌∙◌, arith}
+use Rattle.std.proofs.Common.{ℕ, slice_get, refl, sym, ap, ◌∙◌, arith}
 use Rattle.std.proofs.lemmas.List.FromFn.{fill_by_all}
 use Rattle.std.proofs.lemmas.Option.{slice_get-get_or}
 use Rattle.bk_mmu.specs.ActivePages.{ActivePage, active_page, non_resident}
 use Rattle.bk_machine.specs.Machine.{MachineState}
 use Rattle.bk_pages.specs.Pages.{page_for, pages_for}
 use Rattle.bk_pages.proofs.Setting.{none-there, still-clear, still-set}
-use Rattle.bk_pages.proofs.pages.set_pages.Goals as goal
+use Rattle.bk_pages.proofs.pages.set_each.Goals as goal
 
 pub loop-window-init : goal.loop-window-init
 loop-window-init c = record {
   set = λ n lt. absurd (omega (arith, lt));
-  clear = λ n le. ap (λ registers. active_page registers n) c.clear_pages.ensures.pages ∙ none-there 32 n;
-  rest = c.clear_pages.ensures.rest;
+  clear = λ n le. ap (λ registers. active_page registers n) c.requires.clear ∙ none-there 32 n;
+  rest = refl;
 }
 
 pub loop-window-preserved : goal.loop-window-preserved
