@@ -23,12 +23,32 @@ use Rattle.bk_state.specs.Contents.{new_contents}
 use Rattle.bk_state.specs.declared.image.ObjectRec.{ObjectRec}
 use Rattle.bk_state.specs.Contents.{with_word}
 use Rattle.bk_image.specs.Objects.{Objects, room}
+use Rattle.bk_tree.specs.Kept.{HasBlocks}
 use Rattle.bk_store.specs.Stored.{Entry, Stored, fresh, object_of, objects_of, word_written, word_written_by, HasOffset}
 use Rattle.bk_store.proofs.Stands.{get-objects_of}
 
 -- the object with its first n words
 abbrev pub partial : ObjectRec → ℕ → Object
 partial o n = record { facts = o.facts; contents = contents_from o.facts.kind o.facts.blocks (take n o.words) }
+
+-- ---- sizes
+
+-- a segment has at most 128 blocks, and other objects have none
+pub few_blocks : (kind : Kind) (blocks : ℕ) → HasBlocks kind blocks → blocks ≤ 128
+few_blocks Directory blocks h = omega (arith, h)
+few_blocks Segment blocks h = h.1
+few_blocks Mailbox blocks h = omega (arith, h)
+few_blocks (Line n) blocks h = omega (arith, h)
+
+-- so an object has at most 4,096 words
+pub few_words : (facts : Facts) → facts.blocks ≤ 128 → room facts ≤ 4096
+few_words facts few = by facts.kind refl
+  where
+    by : (kind : Kind) → facts.kind ≡ kind → room facts ≤ 4096
+    by Directory is = let e : room facts ≡ 0 = ap (λ k. room (record facts { kind = k })) is in omega (arith, e)
+    by Segment is = let e : room facts ≡ 32 * facts.blocks = ap (λ k. room (record facts { kind = k })) is in omega (arith, e, few)
+    by Mailbox is = let e : room facts ≡ 0 = ap (λ k. room (record facts { kind = k })) is in omega (arith, e)
+    by (Line n) is = let e : room facts ≡ 0 = ap (λ k. room (record facts { kind = k })) is in omega (arith, e)
 
 -- ---- maps
 

@@ -6,9 +6,9 @@ use Rattle.bk_state.specs.declared.clearance.Clearance.{Clearance}
 use Rattle.bk_store.specs.Stored.{Stored, objects_of}
 use Rattle.bk_load.specs.declared.loading.Loaded.{Loaded}
 
--- the state of the store, of the words of core, and of what is beside them
-abbrev pub state_loaded : Loaded → State
-state_loaded l = record {
+-- the state of the store, of these words of core, and of what is beside them
+abbrev pub state_loaded : Loaded → (words : List ℕ) → State
+state_loaded l words = record {
   fixed = record {
     levels = l.store.levels;
     subjects = l.clearances.items;
@@ -16,7 +16,7 @@ state_loaded l = record {
     turns = l.turns;
     schedule = l.schedule.items;
   };
-  objects = objects_of l.store l.core.words;
+  objects = objects_of l.store words;
   access = l.store.access;
   processes = l.processes.items;
 }

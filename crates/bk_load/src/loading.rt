@@ -1,8 +1,9 @@
-// A store and a core, loaded from an image.
+// A store, loaded from an image into a core that is lent.
 
-ghost use Rattle.std.specs.Prelude.{◌≡◌, ◌≤◌, ℕ, List, All, IfOk, Some, length};
+ghost use Rattle.std.specs.Prelude.{◌≡◌, ◌≤◌, ◌*◌, ℕ, List, All, IfOk, Some, length, take};
 ghost use Rattle.std.specs.FinMap as map;
-ghost use Rattle.bk_object.specs.Limits.{most_blocks};
+ghost use Rattle.bk_object.specs.Limits.{most_blocks, words_of_block};
+ghost use Rattle.bk_core.specs.Memory.{kernel_blocks};
 ghost use Rattle.bk_image.specs.Accepted.{IsAccepted};
 ghost use Rattle.bk_image.specs.Objects.{room};
 ghost use Rattle.bk_load.specs.Loading.{with_holds, CanHold, CanTake, HasFront, HasOneMore, IsLoaded};
@@ -18,13 +19,12 @@ use bk_state::{Clearance, Hold, Image, ObjectRec};
 use bk_store::Store;
 use std::alloc::Global;
 
-/// The state of a system: the store with the core in which its segments stand; of each subject, in the order of their
+/// The state of a system, beside the core in which its segments stand: the store; of each subject, in the order of their
 /// numbers, the numbers of its levels and its process; of each line the number of its level; the turns of a slot, and the
 /// schedule.
 #[derive(Drop)]
 pub struct Loaded {
     pub store: Store,
-    pub core: Core,
     pub clearances: Vec<Clearance>,
     pub lines: Vec<u8>,
     pub turns: u16,
@@ -35,7 +35,8 @@ pub struct Loaded {
 // A new object is there, without its words.
 fn create(store: &mut Store, core: &mut Core, object: &ObjectRec)
     requires { CanTake store.old object.now }
-    ensures { IsCreated store.old store.new core.old.words core.new.words object.now.path object.now.facts }
+    ensures created { IsCreated store.old store.new core.old.words core.new.words object.now.path object.now.facts }
+    ensures kernel { take (words_of_block * kernel_blocks) core.new.words ≡ take (words_of_block * kernel_blocks) core.old.words }
 {
     store.create(core, object.path, object.facts).unwrap();
 }
@@ -45,7 +46,8 @@ fn write_words(store: &Store, core: &mut Core, object: &ObjectRec)
     requires new { map.get (objects_of store.now core.old.words) object.now.path ≡ Some (fresh object.now.facts) }
     requires words { length object.now.words ≤ room object.now.facts }
     requires blocks { object.now.facts.blocks ≤ most_blocks }
-    ensures { objects_of store.now core.new.words ≡ map.insert (objects_of store.now core.old.words) object.now.path (object_from object.now) }
+    ensures objects { objects_of store.now core.new.words ≡ map.insert (objects_of store.now core.old.words) object.now.path (object_from object.now) }
+    ensures kernel { take (words_of_block * kernel_blocks) core.new.words ≡ take (words_of_block * kernel_blocks) core.old.words }
 {
     let words = object.words.as_slice();
     for i in 0..words.len() {
@@ -55,7 +57,8 @@ fn write_words(store: &Store, core: &mut Core, object: &ObjectRec)
 
 fn load_object(store: &mut Store, core: &mut Core, object: &ObjectRec)
     requires { CanTake store.old object.now }
-    ensures { HasOneMore store.old store.new core.old.words core.new.words object.now }
+    ensures more { HasOneMore store.old store.new core.old.words core.new.words object.now }
+    ensures kernel { take (words_of_block * kernel_blocks) core.new.words ≡ take (words_of_block * kernel_blocks) core.old.words }
 {
     create(store, core, object);
     write_words(store, core, object);
@@ -65,7 +68,8 @@ fn load_object(store: &mut Store, core: &mut Core, object: &ObjectRec)
 fn load_objects(store: &mut Store, core: &mut Core, image: &Image)
     requires accepted { IsAccepted image.now }
     requires root { HasFront image.now 1 store.old core.old.words }
-    ensures { HasFront image.now (length image.now.objects) store.new core.new.words }
+    ensures all { HasFront image.now (length image.now.objects) store.new core.new.words }
+    ensures kernel { take (words_of_block * kernel_blocks) core.new.words ≡ take (words_of_block * kernel_blocks) core.old.words }
 {
     let objects = image.objects.as_slice();
     for i in 1..objects.len() {
@@ -98,29 +102,30 @@ fn reserve_root(alloc: Global, image: &Image) -> Result<Store, NoMemory>
     Store::reserve(alloc, image.levels, root.facts, image.lines)
 }
 
-// The store and the core of an accepted image's state.
-fn load_store(alloc: Global, image: &Image) -> Result<(Store, Core), NoMemory>
-    requires { IsAccepted image.now }
-    ensures { IfOk result (λ loaded. IsLoaded image.now loaded.0 loaded.1.words) }
+// What the image has beside root, in a store of root alone.
+fn load_store(store: &mut Store, core: &mut Core, image: &Image)
+    requires accepted { IsAccepted image.now }
+    requires root { HasFront image.now 1 store.old core.old.words }
+    ensures loaded { IsLoaded image.now store.new core.new.words }
+    ensures kernel { take (words_of_block * kernel_blocks) core.new.words ≡ take (words_of_block * kernel_blocks) core.old.words }
 {
-    let mut store = reserve_root(alloc, image)?;
-    let mut core = Core::reserve(alloc)?;
-    load_objects(&mut store, &mut core, image);
-    load_holds(&mut store, image.holds.as_slice());
-    Ok((store, core))
+    load_objects(store, core, image);
+    load_holds(store, image.holds.as_slice());
 }
 
-/// The state of an accepted image. All memory that it needs is taken here; `NoMemory` comes where the host has no more.
-pub fn load(alloc: Global, image: &Image) -> Result<Loaded, NoMemory>
+/// The state of an accepted image, its segments in the core, whatever words that had before. All memory that it needs is taken
+/// here; `NoMemory` comes where the host has no more. The words of the kernel's blocks stay in any case.
+pub fn load(alloc: Global, core: &mut Core, image: &Image) -> Result<Loaded, NoMemory>
     requires { IsAccepted image.now }
-    ensures state { IfOk result (λ loaded. state_loaded loaded ≡ state_of image.now) }
+    ensures state { IfOk result (λ loaded. state_loaded loaded core.new.words ≡ state_of image.now) }
     ensures kept { IfOk result (λ loaded. AreKept loaded) }
+    ensures kernel { take (words_of_block * kernel_blocks) core.new.words ≡ take (words_of_block * kernel_blocks) core.old.words }
 {
-    let (store, core) = load_store(alloc, image)?;
+    let mut store = reserve_root(alloc, image)?;
     let beginning = Beginning::from_image(alloc, image)?;
+    load_store(&mut store, core, image);
     Ok(Loaded {
         store,
-        core,
         clearances: beginning.clearances,
         lines: beginning.lines,
         turns: beginning.turns,
