@@ -29,14 +29,8 @@ use Rattle.bk_calls.proofs.Seen.{clearance-seen, subjects-seen}
 use Rattle.bk_system.specs.Turn.{entered, faulted, less, with_push, with_process, with_pushes, written}
 use Rattle.bk_system.specs.declared.at.At.{At}
 use Rattle.bk_system.specs.Space.{space_of}
-use Rattle.bk_kernel.specs.Tables.{interrupted, ran, served, state_from}
-use Rattle.bk_bus.proofs.Alike.{written-only}
-
--- a few references from 0
-pub counted_small : (n : ℕ) → n ≤ 8 → counted_on 0 n ≡ n
-unfolding counted_on
-counted_small zero few = refl
-counted_small (suc n) few = omega arith
+use Rattle.bk_kernel.specs.Tables.{interrupted, served, state_from}
+use Rattle.bk_pages.proofs.Alike.{written-only}
 
 module _ (clearances : List Clearance) (lines : List ℕ) (turns : ℕ) (schedule : List ℕ) (processes : List Process) (store : Stored) (words : List ℕ) where
   -- store and core stand for the state
@@ -80,19 +74,17 @@ put-in clearances lines turns schedule processes store words w s p q is same = �
 -- ---- instructions
 
 -- a write changes the objects alone
-applied-only : (windows : List (Option Path)) (v : State) (o : Option Write) → applied (written windows) v o ≡ record v { objects = (applied (written windows) v o).objects }
+pub applied-only : (windows : List (Option Path)) (v : State) (o : Option Write) → applied (written windows) v o ≡ record v { objects = (applied (written windows) v o).objects }
 applied-only windows v None = refl
 applied-only windows v (Some w) = written-only v windows w
 
-pub ran-state : (clearances : List Clearance) (lines : List ℕ) (turns : ℕ) (schedule : List ℕ) (processes : List Process) (store : Stored) (words new_words : List ℕ) (v : State) (s : ℕ) (p q : Process) (x : Done) →
-    state_from clearances lines turns schedule processes store words ≡ v → q ≡ record p { registers = x.regs } → StandsFor store new_words (applied (written p.windows) v x.write) →
-    state_from clearances lines turns schedule (slice_set processes s q) store new_words ≡ ran v s p x
-ran-state clearances lines turns schedule processes store words new_words v s p q x is becomes stands =
-    put-in clearances lines turns schedule processes store new_words (applied (written p.windows) v x.write) s q (record p { registers = x.regs })
-    (kept-objects clearances lines turns schedule processes store store words new_words v (applied (written p.windows) v x.write) is (applied-only p.windows v x.write) refl stands) becomes
-
-pub few-references : (v : State) (s : ℕ) (windows : List (Option Path)) (regs : Regs) → (exec (space_of v s windows) regs).references ≤ 8
-few-references v s windows regs = exec_most (space_of v s windows) regs
+-- the process in its place after instructions that came to that state
+pub gone-state : (clearances : List Clearance) (lines : List ℕ) (turns : ℕ) (schedule : List ℕ) (processes : List Process) (store : Stored) (words new_words : List ℕ) (v w : State) (s : ℕ) (p q : Process) →
+    state_from clearances lines turns schedule processes store words ≡ v → w ≡ record v { objects = w.objects } → p ≡ q → StandsFor store new_words w →
+    state_from clearances lines turns schedule (slice_set processes s p) store new_words ≡ with_process w s q
+gone-state clearances lines turns schedule processes store words new_words v w s p q is only becomes stands =
+    put-in clearances lines turns schedule processes store new_words w s p q
+    (kept-objects clearances lines turns schedule processes store store words new_words v w is only refl stands) becomes
 
 -- ---- faults
 

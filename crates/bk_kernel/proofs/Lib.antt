@@ -4,3 +4,8 @@ pub mod Turns
 pub mod Placed
 pub mod Kept
 pub mod Typing
+pub mod Loading
+pub mod Going
+pub mod Instructing
+pub mod Stretched
+pub mod Standing

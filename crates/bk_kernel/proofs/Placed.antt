@@ -25,8 +25,8 @@ use Rattle.bk_system.specs.Space.{space_of}
 use Rattle.bk_system.specs.Step.{Step, nothing}
 use Rattle.bk_system.specs.Turn.{completes, ended, entered, executed, fault_number, faulted, is_reflected, is_user, is_writable, less}
 use Rattle.bk_system.specs.Turn.{settled, stored_in, turn_by, turn_of, turn_of_process, with_process, with_pushes, written, written_by}
-use Rattle.bk_kernel.specs.Tables.{is_running, ran, runs}
-use Rattle.bk_bus.proofs.Alike.{space-alike, written-only}
+use Rattle.bk_kernel.specs.Tables.{is_running, runs}
+use Rattle.bk_pages.proofs.Alike.{space-alike, written-only}
 
 -- ---- a list
 
@@ -44,6 +44,11 @@ pub set-same : {X : Type 0} (xs : List X) (n : ℕ) (a : X) → slice_get xs n �
 set-same [] n a is = refl
 set-same (x ∷ xs) zero a is = ap (λ y. y ∷ xs) (sym (same_Some x a is))
 set-same (x ∷ xs) (suc n) a is = ap (λ ys. x ∷ ys) (set-same xs n a is)
+
+pub set-length : {X : Type 0} (xs : List X) (n : ℕ) (a : X) → length (slice_set xs n a) ≡ length xs
+set-length [] n a = refl
+set-length (x ∷ xs) zero a = refl
+set-length (x ∷ xs) (suc n) a = ap suc (set-length xs n a)
 
 -- ---- the state beside the processes
 
@@ -128,21 +133,20 @@ process-placed v s p within = set-there v.processes s p within
 pub with_process-same : (v : State) (s : ℕ) (p : Process) → process_of v s ≡ Some p → with_process v s p ≡ v
 with_process-same v s p is = λ i. record v { processes = set-same v.processes s p is i }
 
--- the instruction of a process in its place, and what it ends as
-pub take-placed : (v after : State) (at : At) (p : Process) (x : Done) (references : ℕ) (event : Event) → after ≡ ran v at.subject p x → references ≡ x.references → event ≡ x.outcome →
-    ended after at (record p { registers = x.regs }) references event ≡ executed v at p x
-take-placed v after at p x references event is count ends =
-    (λ i. ended (is i) at (record p { registers = x.regs }) (count i) (ends i))
-    ∙ ended-placed (applied (written p.windows) v x.write) at (record p { registers = x.regs }) (record p { registers = x.regs }) x.references x.outcome
-
-applied-processes : (windows : List (Option Path)) (v : State) (o : Option Write) → (applied (written windows) v o).processes ≡ v.processes
+pub applied-processes : (windows : List (Option Path)) (v : State) (o : Option Write) → (applied (written windows) v o).processes ≡ v.processes
 applied-processes windows v None = refl
 applied-processes windows v (Some w) = ap (λ (x : State). x.processes) (written-only v windows w)
 
-pub take-there : (v after : State) (s : ℕ) (p : Process) (x : Done) → s < length v.processes → after ≡ ran v s p x → process_of after s ≡ Some (record p { registers = x.regs })
-take-there v after s p x within is =
-    ap (λ (y : State). process_of y s) is
-    ∙ process-placed (applied (written p.windows) v x.write) s (record p { registers = x.regs }) (subst (λ ps. s < length ps) (sym (applied-processes p.windows v x.write)) within)
+-- a write leaves what stands in the place of a process
+pub applied-placed : (windows : List (Option Path)) (v : State) (s : ℕ) (q : Process) (o : Option Write) → applied (written windows) (with_process v s q) o ≡ with_process (applied (written windows) v o) s q
+applied-placed windows v s q None = refl
+applied-placed windows v s q (Some w) =
+    written-beside v (slice_set v.processes s q) windows w
+    ∙ (λ i. record (written windows v w) { processes = slice_set (sym (applied-processes windows v (Some w)) i) s q })
+
+-- what a subject sees doesn't depend on it
+pub space-placed : (v : State) (s : ℕ) (q : Process) (subject : ℕ) (windows : List (Option Path)) → space_of (with_process v s q) subject windows ≡ space_of v subject windows
+space-placed v s q subject windows = space-beside v (slice_set v.processes s q) subject windows
 
 -- a subject has a process
 pub process-there : (v : State) (s : ℕ) → s < length v.processes → (p : Process) × (process_of v s ≡ Some p)

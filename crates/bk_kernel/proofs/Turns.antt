@@ -11,6 +11,7 @@ use Rattle.bk_system.specs.Loops.{turns_of}
 use Rattle.bk_system.specs.Slot.{subject_of}
 use Rattle.bk_system.specs.declared.script.TypedAt.{TypedAt}
 use Rattle.bk_system.specs.Report.{is_call, calls_in}
+use Rattle.bk_kernel.specs.Stretch.{at_next, turn_after, turns_from}
 use Rattle.bk_kernel.specs.Progress.{Progress, raised, with_arrived, with_turns, next_turn, after_turn, items_within, turn_within, within_slot}
 
 -- a turn of a slot that is the subject's
@@ -31,13 +32,40 @@ turns_past slot s v m n (suc d) e =
     let last = (turn_of (turn_at slot s (d + m)) (turns_of slot s v (d + m)).state).items in
     (rest.0 ++ last, ap (λ k. (turns_of slot s v k).items) next ∙ ap (λ l. l ++ last) rest.1 ∙ append_assoc (turns_of slot s v m).items rest.0 last)
 
--- one turn more
-pub turns_next : (slot s : ℕ) (v : State) (n : ℕ) → turns_of slot s v (n + 1) ≡ joined (turns_of slot s v n) (turn_of (turn_at slot s n) (turns_of slot s v n).state)
-turns_next slot s v n = let e : n + 1 ≡ suc n = omega arith in ap (turns_of slot s v) e
+joined-assoc : (a b d : Step) → joined (joined a b) d ≡ joined a (joined b d)
+joined-assoc a b d = λ i. record { state = d.state; items = append_assoc a.items b.items d.items i; references = sums i }
+  where
+    sums : (a.references + b.references) + d.references ≡ a.references + (b.references + d.references)
+    sums = omega arith
 
--- the items of one more turn are a front of those of the slot
-pub turn_front : (slot s : ℕ) (v : State) (t n : ℕ) → t < n → Extends ((turns_of slot s v t).items ++ (turn_of (turn_at slot s t) (turns_of slot s v t).state).items) (turns_of slot s v n).items
-turn_front slot s v t n h = let e : n ≡ (n - suc t) + suc t = omega (arith, h) in turns_past slot s v (suc t) n (n - suc t) e
+joined-nothing : (a : Step) → joined a (nothing a.state) ≡ a
+joined-nothing a = λ i. record { state = a.state; items = append-nil a.items i; references = plain i }
+  where
+    plain : a.references + 0 ≡ a.references
+    plain = omega arith
+
+-- some turns, and then more
+pub turns_on : (slot s : ℕ) (v : State) (t n : ℕ) → turns_of slot s v (t + n) ≡ joined (turns_of slot s v t) (turns_from (turn_at slot s t) (turns_of slot s v t).state n)
+unfolding turns_from
+turns_on slot s v t zero = let e : t + 0 ≡ t = omega arith in ap (turns_of slot s v) e ∙ sym (joined-nothing (turns_of slot s v t))
+turns_on slot s v t (suc n) =
+    let a = turns_of slot s v t in
+    let b = turns_from (turn_at slot s t) a.state n in
+    let e : t + suc n ≡ suc (t + n) = omega arith in
+    let f : t + n ≡ n + t = omega arith in
+    ap (turns_of slot s v) e
+    ∙ ap (λ (step : Step). joined step (turn_of (turn_at slot s (t + n)) step.state)) (turns_on slot s v t n)
+    ∙ joined-assoc a b (turn_of (turn_at slot s (t + n)) b.state)
+    ∙ ap (λ m. joined a (joined b (turn_of (turn_at slot s m) b.state))) f
+
+-- where only the last of them gives items, they are its items
+pub last-items : (at : At) (v : State) (n : ℕ) → (turns_from at v n).items ≡ [] → (turns_from at v (suc n)).items ≡ (turn_of (turn_after at n) (turns_from at v n).state).items
+unfolding turns_from
+last-items at v n quiet = ap (λ xs. xs ++ (turn_of (turn_after at n) (turns_from at v n).state).items) quiet
+
+-- the items of so many turns are a front of those of the slot
+pub turns_front : (slot s : ℕ) (v : State) (m n : ℕ) → m ≤ n → Extends (turns_of slot s v m).items (turns_of slot s v n).items
+turns_front slot s v m n h = let e : n ≡ (n - m) + m = omega (arith, h) in turns_past slot s v m n (n - m) e
 
 -- ---- counts
 
@@ -83,6 +111,33 @@ with_turns-next p a s t fresh few =
 
     number : raised 16 p.since t ≡ t
     number = ap (λ n. raised 16 n t) fresh ∙ raised_small t (2 ^ 16 - 1) (omega arith)
+
+-- more turns
+pub with_turns-more : (p : Progress) (a b : Step) (t n : ℕ) → with_turns (with_turns p a t) b n ≡ with_turns p (joined a b) (t + n)
+with_turns-more p a b t n = λ i. record {
+  state = b.state;
+  slots = p.slots;
+  since = raised_twice p.since t n (2 ^ 16 - 1) i;
+  turns = raised_twice p.turns t n (2 ^ 32 - 1) i;
+  references = raised_twice p.references a.references b.references (2 ^ 64 - 1) i;
+  calls = (raised_twice p.calls (calls_in a.items) (calls_in b.items) (2 ^ 32 - 1) ∙ ap (raised 32 p.calls) (sym (calls_more a.items b.items))) i;
+}
+
+-- the turns that come next, after some of a slot
+module _ (p now : Progress) (a : Step) (s t : ℕ) (fresh : p.since ≡ 0) (few : t < 2 ^ 16) (here : now ≡ with_turns p a t) where
+  pub since_is : now.since ≡ t
+  since_is = ap (λ (k : Progress). k.since) here ∙ ap (λ n. raised 16 n t) fresh ∙ raised_small t (2 ^ 16 - 1) (omega (arith, few))
+
+  pub next_from : (n : ℕ) → turns_from (at_next now s) now.state n ≡ turns_from (turn_at p.slots s t) a.state n
+  next_from n =
+      ap (λ m. turns_from (record { slot = now.slots; turn = m; subject = s }) now.state n) since_is
+      ∙ ap (λ (k : Progress). turns_from (record { slot = k.slots; turn = t; subject = s }) k.state n) here
+
+  pub after_more : (n : ℕ) → with_turns now (turns_from (at_next now s) now.state n) n ≡ with_turns p (joined a (turns_from (turn_at p.slots s t) a.state n)) (t + n)
+  after_more n =
+      ap (λ (step : Step). with_turns now step n) (next_from n)
+      ∙ ap (λ (k : Progress). with_turns k (turns_from (turn_at p.slots s t) a.state n) n) here
+      ∙ with_turns-more p a (turns_from (turn_at p.slots s t) a.state n) t n
 
 -- the number of the turn that comes next
 pub turn_number : (p : Progress) (a : Step) (s t : ℕ) → p.since ≡ 0 → t < 2 ^ 16 → (next_turn (with_turns p a t) s).items ≡ (turn_of (turn_at p.slots s t) a.state).items

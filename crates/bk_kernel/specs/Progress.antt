@@ -3,6 +3,7 @@
 use Rattle.std.specs.Prelude.{◌≡◌, ℕ, zero, suc, ◌+◌, ◌-◌, ◌^◌, ◌<◌, min, max, List, [], ◌++◌, Option}
 use Rattle.std.specs.Io.KnownBytes.{Appends}
 use Rattle.bk_base.specs.Written.{IsFront}
+use Rattle.bk_machine.specs.Machine.{MachineState}
 use Rattle.bk_report.specs.declared.item.ReportItem.{ReportItem}
 use Rattle.bk_report.specs.Text.{lines_of}
 use Rattle.bk_state.specs.State.{State}
@@ -13,6 +14,7 @@ use Rattle.bk_system.specs.Event.{slot_ended}
 use Rattle.bk_system.specs.Loops.{all_arrived}
 use Rattle.bk_system.specs.Slot.{slot_of, subject_of}
 use Rattle.bk_system.specs.Report.{calls_in}
+use Rattle.bk_kernel.specs.Tables.{TablesState}
 
 -- how far a run has come: its state, the slots that ended, the turns since the last one ended, and the sums for its last line
 pub record Progress : Type 0 where
@@ -22,6 +24,20 @@ pub record Progress : Type 0 where
   pub turns : ℕ
   pub references : ℕ
   pub calls : ℕ
+
+-- how far it has come, the machine, and the number of the subject that is loaded in it
+pub record KernelState : Type 0 where
+  pub progress : Progress
+  pub machine : MachineState
+  pub loaded : ℕ
+
+-- of what the tables stand for, with the totals; the machine counts the references
+abbrev pub kernel_from : TablesState → (slots since turns calls : ℕ) → KernelState
+kernel_from tables slots since turns calls = record {
+  progress = record { state = tables.state; slots = slots; since = since; turns = turns; references = tables.machine.references; calls = calls };
+  machine = tables.machine;
+  loaded = tables.loaded;
+}
 
 -- a count of so many bits that rises, but not past its last value, and never falls
 abbrev pub raised : (bits count more : ℕ) → ℕ

@@ -3,15 +3,26 @@
 ghost use Rattle.std.specs.Prelude.{◌≡◌, OnOk, OnErr, All, option_to_list};
 ghost use Rattle.bk_base.specs.Written.{Took, Broke};
 ghost use Rattle.bk_report.specs.Text.{IsAnswered, lines_of};
-ghost use Rattle.std.specs.Prelude.{◌≤◌, ◌<◌, length, slice_get, IfSome};
+ghost use Rattle.std.specs.Prelude.{◌≤◌, ◌<◌, ◌+◌, length, slice_get, IfSome, Some};
+ghost use Rattle.bk_machine.specs.Machine.{bus_of};
+ghost use Rattle.bk_machine.specs.Paged.{shown_in};
+ghost use Rattle.bk_process.specs.declared.process.Process.{Process};
 ghost use Rattle.bk_state.specs.State.{process_of};
+ghost use Rattle.bk_store.specs.Stored.{Stored};
 ghost use Rattle.bk_system.specs.Slot.{subject_of};
 ghost use Rattle.bk_system.specs.Report.{calls_in};
-ghost use Rattle.bk_kernel.specs.Items.{items_of};
-ghost use Rattle.bk_kernel.specs.Progress.{next_turn, after_turn, after_end, next_slot, after_slot, with_arrived, IsCutOff};
+ghost use Rattle.bk_system.specs.Space.{space_of};
+ghost use Rattle.bk_space.specs.Counts.{counted_on};
+ghost use Rattle.bk_kernel.specs.Items.{items_of, IsInOrder};
+ghost use Rattle.bk_kernel.specs.Progress.{next_turn, after_turn, after_end, next_slot, after_slot, with_arrived, with_turns, IsCutOff};
+ghost use Rattle.bk_kernel.specs.StandsFor.{StandsFor};
+ghost use Rattle.bk_kernel.specs.Stretch.{at_next, turns_from, HasStretched};
+ghost use Rattle.bk_kernel.specs.Tables.{last_after, runs_after};
 
 use crate::tables::Tables;
+use crate::turn::{Items, Stretch};
 use bk_base::{Failed, Sink, write_all};
+use bk_machine::Machine;
 use bk_process::Status9;
 use bk_report::{ReportItem, print};
 use bk_system::{At, TypedAt};
@@ -26,21 +37,21 @@ pub struct Summary {
     pub calls: u32,
 }
 
-/// A kernel, seen as the state of the system and the totals so far.
+/// A kernel, seen as the state of the system with the totals so far, and the machine, in which the process of one subject is
+/// loaded.
 #[derive(Drop)]
 pub struct Kernel {
     pub(crate) tables: Tables,
     pub(crate) slots: u32,
     pub(crate) since: u16,
     pub(crate) turns: u32,
-    pub(crate) references: u64,
     pub(crate) calls: u32,
 }
 
 impl Model for Kernel {
-    ghost use Rattle.bk_kernel.specs.Progress.{Progress};
+    ghost use Rattle.bk_kernel.specs.Progress.{KernelState};
 
-    ghost Value = { Progress };
+    ghost Value = { KernelState };
 
     ghost use Rattle.std.specs.Coded.{codes};
     ghost use Rattle.std.specs.FinMap as map;
@@ -48,7 +59,9 @@ impl Model for Kernel {
 
     ghost coded = { Prim.hlevel (codes, map.code, set.code) };
 
-    ghost view = { λ k. record { state = k.tables; slots = k.slots; since = k.since; turns = k.turns; references = k.references; calls = k.calls } };
+    ghost use Rattle.bk_kernel.specs.Progress.{kernel_from};
+
+    ghost view = { λ k. kernel_from k.tables k.slots k.since k.turns k.calls };
 }
 
 fn call_count(item: &Option<ReportItem>) -> u32
@@ -61,7 +74,7 @@ fn call_count(item: &Option<ReportItem>) -> u32
     }
 }
 
-fn calls_in(items: &(Option<ReportItem>, Option<ReportItem>)) -> u32
+fn calls_in(items: &Items) -> u32
     ensures { result ≡ calls_in (items_of items.now) }
 {
     call_count(&items.0) + call_count(&items.1)
@@ -80,10 +93,7 @@ fn write_item<O: Sink>(out: &mut O, item: &Option<ReportItem>) -> Result<(), Fai
 }
 
 /// Writes the lines of a turn.
-fn write_items<O: Sink>(
-    out: &mut O,
-    items: &(Option<ReportItem>, Option<ReportItem>),
-) -> Result<(), Failed>
+fn write_items<O: Sink>(out: &mut O, items: &Items) -> Result<(), Failed>
     requires { All IsAnswered (items_of items.now) }
     ensures written { OnOk result (Took (O.taken out.old) (O.taken out.new) (O.faults out.old) (O.faults out.new) (lines_of (items_of items.now))) }
     ensures failed { OnErr result (Broke (O.taken out.old) (O.taken out.new) (O.faults out.old) (O.faults out.new) (lines_of (items_of items.now))) }
@@ -93,32 +103,59 @@ fn write_items<O: Sink>(
 }
 
 impl Kernel {
-    /// The next turn, which is the subject's: a turn of a paused or stopped process, or of no subject, does nothing.
-    #[tactic(auto, unfolding(crate::specs::Progress::after_turn))]
-    pub fn turn(&mut self, subject: u8) -> (Option<ReportItem>, Option<ReportItem>)
-        ensures after { self.new ≡ after_turn self.old subject }
-        ensures items { items_of result ≡ (next_turn self.old subject).items }
-        ensures first { result.0 ≡ slice_get (next_turn self.old subject).items 0 }
-        ensures second { result.1 ≡ slice_get (next_turn self.old subject).items 1 }
-        ensures answered { All IsAnswered (items_of result) }
+    // The number of the next turn.
+    fn number(&self) -> u16
+        ensures { result ≡ self.now.progress.since }
+    {
+        self.since
+    }
+
+    // The turns that come next, which are the subject's: at least one and at most so many, up to the first that gives items.
+    fn stretch(&mut self, subject: u8, most: u16) -> Stretch
+        requires some { 1 ≤ most }
+        requires numbered { self.old.progress.since + most ≤ 65536 }
+        ensures made { HasStretched self.old self.new subject most result.turns result.items }
+        ensures after { self.new.progress ≡ with_turns self.old.progress (turns_from (at_next self.old.progress subject) self.old.progress.state result.turns) result.turns }
+        ensures order { IsInOrder result.items }
+        ensures answered { All IsAnswered (items_of result.items) }
     {
         let at = At {
             slot: self.slots,
             turn: self.since,
             subject,
         };
-        let turned = self.tables.turn(at);
-        self.since = self.since.saturating_add(1);
-        self.turns = self.turns.saturating_add(1);
-        self.references = self.references.saturating_add(turned.references);
-        self.calls = self.calls.saturating_add(calls_in(&turned.items));
-        turned.items
+        // The count of references is below 2^64, so that it rises as the sum over a run does.
+        let _references = self.tables.references();
+        let made = self.tables.stretch(at, most);
+        self.since = self.since.saturating_add(made.turns);
+        self.turns = self.turns.saturating_add(u32::from(made.turns));
+        self.calls = self.calls.saturating_add(calls_in(&made.items));
+        made
+    }
+
+    /// The next turn, which is the subject's: a turn of a paused or stopped process, or of no subject, does nothing. Where the
+    /// process runs, the machine runs one instruction of it, and tells that.
+    #[tactic(auto, unfolding(crate::specs::Progress::after_turn))]
+    pub fn turn(&mut self, subject: u8) -> (Option<ReportItem>, Option<ReportItem>)
+        ensures after { self.new.progress ≡ after_turn self.old.progress subject }
+        ensures items { items_of result ≡ (next_turn self.old.progress subject).items }
+        ensures first { result.0 ≡ slice_get (next_turn self.old.progress subject).items 0 }
+        ensures second { result.1 ≡ slice_get (next_turn self.old.progress subject).items 1 }
+        ensures answered { All IsAnswered (items_of result) }
+        ensures references { self.new.machine.references ≡ counted_on self.old.machine.references (next_turn self.old.progress subject).references }
+        ensures runs { self.new.machine.runs ≡ runs_after self.old.progress.state subject self.old.machine.runs }
+        ensures last { self.new.machine.last ≡ last_after self.old.progress.state subject self.old.machine.last }
+    {
+        // The number of a turn is below 65,536, so that one more can be numbered.
+        let _number = self.number();
+        self.stretch(subject, 1).items
     }
 
     /// The slot ends: each paused process runs again, and the turns are numbered from 0.
     #[tactic(auto, unfolding(crate::specs::Progress::after_end))]
     pub fn end_slot(&mut self)
-        ensures { self.new ≡ after_end self.old }
+        ensures after { self.new.progress ≡ after_end self.old.progress }
+        ensures machine { self.new.machine ≡ self.old.machine }
     {
         self.tables.end_slot();
         self.slots = self.slots.saturating_add(1);
@@ -126,19 +163,19 @@ impl Kernel {
     }
 
     fn arrive(&mut self, typed: &[TypedAt])
-        ensures { self.new ≡ with_arrived self.old typed.now }
+        ensures { self.new.progress ≡ with_arrived self.old.progress typed.now }
     {
         self.tables.type_records(typed);
     }
 
     fn subject(&self) -> u8
-        ensures { result ≡ subject_of self.now.state.fixed self.now.slots }
+        ensures { result ≡ subject_of self.now.progress.state.fixed self.now.progress.slots }
     {
         self.tables.subject_of(self.slots)
     }
 
     fn turns_of_slot(&self) -> u16
-        ensures { result ≡ self.now.state.fixed.turns }
+        ensures { result ≡ self.now.progress.state.fixed.turns }
     {
         self.tables.turns()
     }
@@ -147,18 +184,20 @@ impl Kernel {
     /// they arise. Where a write fails, the turn of that line has been made, no further turn is made, and the slot hasn't
     /// ended.
     pub fn slot<O: Sink>(&mut self, typed: &[TypedAt], out: &mut O) -> Result<(), Failed>
-        requires { self.old.since ≡ 0 }
-        ensures after { OnOk result (self.new ≡ after_slot self.old typed.now) }
-        ensures written { OnOk result (Took (O.taken out.old) (O.taken out.new) (O.faults out.old) (O.faults out.new) (lines_of (next_slot self.old typed.now).items)) }
-        ensures failed { OnErr result (Broke (O.taken out.old) (O.taken out.new) (O.faults out.old) (O.faults out.new) (lines_of (next_slot self.old typed.now).items)) }
-        ensures left { OnErr result (IsCutOff self.old self.new typed.now (O.taken out.old) (O.taken out.new)) }
+        requires { self.old.progress.since ≡ 0 }
+        ensures after { OnOk result (self.new.progress ≡ after_slot self.old.progress typed.now) }
+        ensures written { OnOk result (Took (O.taken out.old) (O.taken out.new) (O.faults out.old) (O.faults out.new) (lines_of (next_slot self.old.progress typed.now).items)) }
+        ensures failed { OnErr result (Broke (O.taken out.old) (O.taken out.new) (O.faults out.old) (O.faults out.new) (lines_of (next_slot self.old.progress typed.now).items)) }
+        ensures left { OnErr result (IsCutOff self.old.progress self.new.progress typed.now (O.taken out.old) (O.taken out.new)) }
     {
         let subject = self.subject();
         let turns = self.turns_of_slot();
         self.arrive(typed);
-        for t in 0..turns {
-            let items = self.turn(subject);
-            write_items(out, &items)?;
+        let mut left = turns;
+        while left > 0 {
+            let made = self.stretch(subject, left);
+            left -= made.turns;
+            write_items(out, &made.items)?;
         }
         self.end_slot();
         Ok(())
@@ -166,20 +205,36 @@ impl Kernel {
 
     /// The totals since boot.
     pub fn summary(&self) -> Summary
-        ensures { result ≡ record { slots = self.now.slots; turns = self.now.turns; references = self.now.references; calls = self.now.calls } }
+        ensures { result ≡ record { slots = self.now.progress.slots; turns = self.now.progress.turns; references = self.now.progress.references; calls = self.now.progress.calls } }
     {
         Summary {
             slots: self.slots,
             turns: self.turns,
-            references: self.references,
+            references: self.tables.references(),
             calls: self.calls,
         }
     }
 
+    /// The machine.
+    pub fn machine(&self) -> &Machine
+        ensures { result.now ≡ self.now.machine }
+    {
+        self.tables.machine()
+    }
+
+    /// Between turns a store and the machine stand for the state of the system: facts, current access set, words and queues are
+    /// the state's, the machine has the registers of the loaded subject's process, and its pages show the space of the subject.
+    pub fn law_stands_for(&self)
+        ensures stands { (store : Stored) × StandsFor store self.now.machine self.now.loaded self.now.progress.state }
+        ensures space { (p : Process) → process_of self.now.progress.state self.now.loaded ≡ Some p → shown_in (bus_of self.now.machine) ≡ space_of self.now.progress.state self.now.loaded p.windows }
+    {
+        self.tables.law_stands_for();
+    }
+
     /// Whether the subject's process runs.
     pub fn status(&self, subject: u8) -> Status9
-        requires { subject < length self.now.state.processes }
-        ensures { IfSome (process_of self.now.state subject) (λ process. result ≡ process.status) }
+        requires { subject < length self.now.progress.state.processes }
+        ensures { IfSome (process_of self.now.progress.state subject) (λ process. result ≡ process.status) }
     {
         match self.tables.status(subject) {
             Some(found) => found,

@@ -14,6 +14,7 @@
 
 mod boot;
 mod kernel;
+mod running;
 mod tables;
 #[cfg(test)]
 mod tests;

@@ -1,31 +1,31 @@
-// The state that the kernel keeps: what is fixed, store and core, and the processes.
+// What the kernel keeps: what is fixed, the store, the processes, and the machine.
 
-ghost use Rattle.std.specs.Prelude.{◌≡◌, ◌<◌, ◌≤◌, [], ◌∷◌, Some, length, map, option_map, slice_index, if◌then◌else◌};
+ghost use Rattle.std.specs.Prelude.{◌≡◌, [], ◌∷◌, Some, length, map, option_map};
 ghost use Rattle.bk_process.specs.declared.process.Process.{Process};
-ghost use Rattle.bk_exec.specs.Exec.{exec};
+ghost use Rattle.bk_space.specs.declared.address.TheConstants.{PAGES as pages};
+ghost use Rattle.bk_machine.specs.Machine.{bus_of};
+ghost use Rattle.bk_machine.specs.Paged.{shown_in};
 ghost use Rattle.bk_state.specs.State.{process_of};
-ghost use Rattle.bk_state.specs.Answers.{called};
-ghost use Rattle.bk_calls.specs.Made.{answer_of, line_byte};
-ghost use Rattle.bk_system.specs.Space.{space_of};
-ghost use Rattle.bk_system.specs.Turn.{fault_number, is_reflected};
+ghost use Rattle.bk_store.specs.Stored.{Stored};
 ghost use Rattle.bk_system.specs.Arrivals.{arrived};
 ghost use Rattle.bk_system.specs.Event.{slot_ended, with_resumed};
 ghost use Rattle.bk_system.specs.Loops.{all_arrived};
 ghost use Rattle.bk_system.specs.Slot.{subject_of};
-ghost use Rattle.bk_kernel.specs.Tables.{interrupted, ran, runs, served};
+ghost use Rattle.bk_system.specs.Space.{space_of};
+ghost use Rattle.bk_kernel.specs.StandsFor.{StandsFor};
+ghost use Rattle.bk_kernel.specs.Tables.{runs};
 
-use bk_bus::{Executed, Faulted, fault, run_one};
-use bk_calls::{Caller, Reply, call};
-use bk_core::Core;
-use bk_process::{Process, Status9};
-use bk_space::Cause;
+use bk_machine::Machine;
+use bk_pages::law_space;
+use bk_path::Path;
+use bk_process::{Process, Status9, WINDOWS};
 use bk_state::Clearance;
 use bk_store::Store;
 use bk_system::TypedAt;
 use std::marker::Model;
 
-/// The state of the system: the store and core; of each subject, 0 to 31, the numbers of its levels and its process; of each
-/// line the number of its level.
+/// The state of the system: the store; of each subject, 0 to 31, the numbers of its levels and its process; of each line the
+/// number of its level; and the machine, with core, in which the process of one subject is loaded.
 #[derive(Drop)]
 pub(crate) struct Tables {
     pub(crate) clearances: Vec<Clearance>,
@@ -34,13 +34,14 @@ pub(crate) struct Tables {
     pub(crate) schedule: Vec<u8>,
     pub(crate) processes: Vec<Process>,
     pub(crate) store: Store,
-    pub(crate) core: Core,
+    pub(crate) machine: Machine,
+    pub(crate) loaded: u8,
 }
 
 impl Model for Tables {
-    ghost use Rattle.bk_state.specs.State.{State};
+    ghost use Rattle.bk_kernel.specs.Tables.{TablesState};
 
-    ghost Value = { State };
+    ghost Value = { TablesState };
 
     ghost use Rattle.std.specs.Coded.{codes};
     ghost use Rattle.std.specs.FinMap as map;
@@ -48,9 +49,9 @@ impl Model for Tables {
 
     ghost coded = { Prim.hlevel (codes, map.code, set.code) };
 
-    ghost use Rattle.bk_kernel.specs.Tables.{state_kept, AreKept};
+    ghost use Rattle.bk_kernel.specs.Tables.{tables_kept, AreKept};
 
-    ghost view = { state_kept };
+    ghost view = { tables_kept };
 
     ghost invariant = { AreKept };
 }
@@ -58,14 +59,14 @@ impl Model for Tables {
 impl Tables {
     /// The turns of a slot.
     pub(crate) fn turns(&self) -> u16
-        ensures { result ≡ self.now.fixed.turns }
+        ensures { result ≡ self.now.state.fixed.turns }
     {
         self.turns
     }
 
     /// The subject whose slot it is.
     pub(crate) fn subject_of(&self, slot: u32) -> u8
-        ensures { result ≡ subject_of self.now.fixed slot }
+        ensures { result ≡ subject_of self.now.state.fixed slot }
     {
         let places = self.schedule.len();
         if places == 0 {
@@ -77,74 +78,53 @@ impl Tables {
 
     /// The status of the subject's process: None where there is no such subject.
     pub(crate) fn status(&self, subject: u8) -> Option<Status9>
-        ensures { result ≡ option_map (λ process. process.status) (process_of self.now subject) }
+        ensures { result ≡ option_map (λ process. process.status) (process_of self.now.state subject) }
     {
         self.processes
             .get(subject as usize)
             .map(|process| process.status)
     }
 
+    /// How many references the machine has made.
+    pub(crate) fn references(&self) -> u64
+        ensures { result ≡ self.now.machine.references }
+    {
+        self.machine.references()
+    }
+
+    /// The machine.
+    pub(crate) fn machine(&self) -> &Machine
+        ensures { result.now ≡ self.now.machine }
+    {
+        &self.machine
+    }
+
+    /// Store and machine stand for the state, and the pages show what the loaded subject sees.
+    pub(crate) fn law_stands_for(&self)
+        ensures stands { (store : Stored) × StandsFor store self.now.machine self.now.loaded self.now.state }
+        ensures space { (p : Process) → process_of self.now.state self.now.loaded ≡ Some p → shown_in (bus_of self.now.machine) ≡ space_of self.now.state self.now.loaded p.windows }
+    {
+        self.store.law_contents();
+        law_space(&self.store);
+        law_windows(&self.processes[self.loaded as usize].windows);
+    }
+
     /// Whether there is such a subject, and its process runs.
     pub(crate) fn runs(&self, subject: u8) -> bool
-        ensures { result ≡ runs (process_of self.now subject) }
+        ensures { result ≡ runs (process_of self.now.state subject) }
     {
         match self.processes.get(subject as usize) {
             Some(process) => process.status == Status9::Running,
             None => false,
         }
     }
+}
 
-    /// R0 to R5 of the subject's process.
-    pub(crate) fn general(&self, subject: u8) -> [u16; 6]
-        requires { subject < length self.now.processes }
-        ensures { (p : Process) → process_of self.now subject ≡ Some p → result ≡ p.registers.general }
-    {
-        self.processes[subject as usize].registers.general
-    }
-
-    /// One instruction of the subject, by the registers and through the windows of its process.
-    pub(crate) fn instruct(&mut self, subject: u8) -> Executed
-        requires { subject < length self.old.processes }
-        ensures state { (p : Process) → process_of self.old subject ≡ Some p → self.new ≡ ran self.old subject p (exec (space_of self.old subject p.windows) p.registers) }
-        ensures event { (p : Process) → process_of self.old subject ≡ Some p → result.event ≡ (exec (space_of self.old subject p.windows) p.registers).outcome }
-        ensures references { (p : Process) → process_of self.old subject ≡ Some p → result.references ≡ (exec (space_of self.old subject p.windows) p.registers).references }
-        ensures few { result.references ≤ 8 }
-    {
-        let process = &mut self.processes[subject as usize];
-        run_one(&self.store, &mut self.core, subject, process)
-    }
-
-    /// A kernel call of the subject, by the registers of its process.
-    pub(crate) fn call(&mut self, subject: u8, number: u8) -> Reply
-        requires { subject < length self.old.processes }
-        ensures state { (p : Process) → process_of self.old subject ≡ Some p → self.new ≡ served self.old subject (called self.old subject p number) }
-        ensures answer { (p : Process) → process_of self.old subject ≡ Some p → result.answer ≡ answer_of (called self.old subject p number).cause }
-        ensures sent { (p : Process) → process_of self.old subject ≡ Some p → result.sent ≡ option_map line_byte (called self.old subject p number).sent }
-    {
-        let levels = self.clearances[subject as usize];
-        let caller = Caller {
-            subject,
-            f_s: levels.greatest,
-            f_c: levels.current,
-            subjects: self.clearances.len() as u8,
-        };
-        let process = &mut self.processes[subject as usize];
-        call(&mut self.store, &mut self.core, process, &caller, number)
-    }
-
-    /// A fault of the subject, which its process takes at its entry, or which stops it.
-    pub(crate) fn fault(&mut self, subject: u8, cause: Cause) -> Faulted
-        requires { subject < length self.old.processes }
-        ensures number { result.number ≡ fault_number cause }
-        ensures pc { (p : Process) → process_of self.old subject ≡ Some p → result.pc ≡ p.registers.pc }
-        ensures taken { (p : Process) → process_of self.old subject ≡ Some p → result.taken ≡ is_reflected self.old subject p (slice_index p.entries (fault_number cause)) }
-        ensures references { result.references ≡ (if result.taken then 2 else 0) }
-        ensures few { result.references ≤ 2 }
-        ensures state { (p : Process) → process_of self.old subject ≡ Some p → self.new ≡ interrupted self.old subject p (fault_number cause) (slice_index p.entries (fault_number cause)) result.taken }
-    {
-        let process = &mut self.processes[subject as usize];
-        fault(&self.store, &mut self.core, subject, process, cause)
-    }
+// There is a window for each page.
+fn law_windows(windows: &[Option<Path>; WINDOWS as usize])
+    ensures { length windows.now ≡ pages }
+{
+    let _windows = windows.len();
 }
 
 fn resume(process: &mut Process)
@@ -167,14 +147,16 @@ impl Tables {
     /// A byte arrives on a line.
     #[tactic(auto, unfolding(bk_system::specs::Arrivals::arrived))]
     fn type_byte(&mut self, line: u8, byte: u8)
-        ensures { self.new ≡ arrived self.old line (byte ∷ []) }
+        ensures state { self.new.state ≡ arrived self.old.state line (byte ∷ []) }
+        ensures rest { (self.new.machine ≡ self.old.machine) × (self.new.loaded ≡ self.old.loaded) }
     {
         self.store.type_byte(line, byte);
     }
 
     /// Bytes arrive on a line, in order.
     fn type_bytes(&mut self, line: u8, bytes: &[u8])
-        ensures { self.new ≡ arrived self.old line bytes.now }
+        ensures state { self.new.state ≡ arrived self.old.state line bytes.now }
+        ensures rest { (self.new.machine ≡ self.old.machine) × (self.new.loaded ≡ self.old.loaded) }
     {
         for byte in bytes {
             self.type_byte(line, *byte);
@@ -183,7 +165,8 @@ impl Tables {
 
     /// The bytes of records arrive on their lines, in order.
     pub(crate) fn type_records(&mut self, typed: &[TypedAt])
-        ensures { self.new ≡ all_arrived self.old typed.now }
+        ensures state { self.new.state ≡ all_arrived self.old.state typed.now }
+        ensures rest { (self.new.machine ≡ self.old.machine) × (self.new.loaded ≡ self.old.loaded) }
     {
         for record in typed {
             self.type_bytes(record.line, record.bytes.as_slice());
@@ -193,7 +176,8 @@ impl Tables {
     /// A slot ends: each paused process runs again.
     #[tactic(auto, unfolding(bk_system::specs::Event::slot_ended))]
     pub(crate) fn end_slot(&mut self)
-        ensures { self.new ≡ slot_ended self.old }
+        ensures state { self.new.state ≡ slot_ended self.old.state }
+        ensures rest { (self.new.machine ≡ self.old.machine) × (self.new.loaded ≡ self.old.loaded) }
     {
         resume_all(&mut self.processes);
     }

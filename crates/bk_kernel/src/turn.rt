@@ -1,25 +1,25 @@
-// A turn of a subject.
+// Turns of a subject.
 
-ghost use Rattle.std.specs.Prelude.{◌≡◌, ◌<◌, ◌≤◌, [], All, Some, length, option_map, option_to_list};
+ghost use Rattle.std.specs.Prelude.{◌≡◌, ◌≤◌, ◌+◌, ℕ, All, Option, Some, option_map, option_to_list, true};
+ghost use Rattle.bk_space.specs.Counts.{counted_on};
 ghost use Rattle.bk_process.specs.declared.process.Process.{Process};
 ghost use Rattle.bk_exec.specs.declared.event.Event.TheVariants.{Fault as Faults};
-ghost use Rattle.bk_state.specs.State.{process_of};
 ghost use Rattle.bk_report.specs.Text.{IsAnswered};
 ghost use Rattle.bk_report.specs.declared.item.ReportItem.TheVariants.{Call, Fault};
+ghost use Rattle.bk_state.specs.State.{process_of};
 ghost use Rattle.bk_state.specs.Answers.{called};
 ghost use Rattle.bk_state.specs.Causes.{answer_in, cause_in};
 ghost use Rattle.bk_state.specs.declared.cause.CallCause.{CallCause};
-ghost use Rattle.bk_exec.specs.Exec.{exec};
 ghost use Rattle.bk_calls.specs.Made.{answer_of, line_byte};
-ghost use Rattle.bk_system.specs.Space.{space_of};
-ghost use Rattle.bk_system.specs.Turn.{byte_item, settled, ended, executed, turn_of};
-ghost use Rattle.std.specs.Prelude.{ℕ, Option};
+ghost use Rattle.bk_system.specs.Turn.{byte_item, settled, ended};
 ghost use Rattle.bk_kernel.specs.Items.{items_of, IsInOrder};
+ghost use Rattle.bk_kernel.specs.Stretch.{IsStretch};
+ghost use Rattle.bk_kernel.specs.Tables.{runs, RanNothing};
 
 use crate::tables::Tables;
-use bk_bus::{Executed, Faulted};
 use bk_calls::{Answer, LineByte};
 use bk_exec::Event;
+use bk_pages::Faulted;
 use bk_report::ReportItem;
 use bk_space::Cause;
 use bk_system::At;
@@ -27,11 +27,11 @@ use bk_system::At;
 /// The items of a turn, at most two, in their order.
 pub(crate) type Items = (Option<ReportItem>, Option<ReportItem>);
 
-/// What a turn gives: its items, and how many references it makes.
+/// Turns that were made, of which all but the last gave no item: how many, and the items of the last.
 #[derive(Clone, Copy)]
-pub(crate) struct Turned {
+pub(crate) struct Stretch {
+    pub(crate) turns: u16,
     pub(crate) items: Items,
-    pub(crate) references: u64,
 }
 
 // The item of a call that found these registers.
@@ -86,99 +86,95 @@ fn fault_item(at: At, fault: Faulted) -> ReportItem
     }
 }
 
-fn idle() -> Turned
-    ensures items { items_of result.items ≡ [] }
-    ensures order { IsInOrder result.items }
-    ensures references { result.references ≡ 0 }
-{
-    Turned {
-        items: (None, None),
-        references: 0,
-    }
-}
-
 impl Tables {
     // A call: its item, and the byte that goes out.
     fn settle(&mut self, at: At, number: u8) -> Items
-        requires { at.subject < length self.old.processes }
-        ensures state { (p : Process) → process_of self.old at.subject ≡ Some p → self.new ≡ (settled self.old at p number 0 (called self.old at.subject p number)).state }
-        ensures items { (p : Process) → process_of self.old at.subject ≡ Some p → items_of result ≡ (settled self.old at p number 0 (called self.old at.subject p number)).items }
+        requires { at.subject ≡ self.old.loaded }
+        ensures state { (p : Process) → process_of self.old.state at.subject ≡ Some p → self.new.state ≡ (settled self.old.state at p number 0 (called self.old.state at.subject p number)).state }
+        ensures items { (p : Process) → process_of self.old.state at.subject ≡ Some p → items_of result ≡ (settled self.old.state at p number 0 (called self.old.state at.subject p number)).items }
         ensures order { IsInOrder result }
         ensures answered { All IsAnswered (items_of result) }
+        ensures loaded { self.new.loaded ≡ self.old.loaded }
+        ensures nothing { RanNothing self.old.machine self.new.machine }
     {
-        let found = self.general(at.subject);
-        let reply = self.call(at.subject, number);
+        let found = self.general();
+        let reply = self.call(number);
         let item = call_item(at, number, found, reply.answer);
         let sent = byte_item(at, reply.sent);
         (Some(item), sent)
     }
 
     // A fault, which the process takes at its entry with two references, or which stops it.
-    fn end_in(&mut self, at: At, cause: Cause, references: u64) -> Turned
-        requires there { at.subject < length self.old.processes }
-        requires few { references ≤ 8 }
-        ensures state { (p : Process) → process_of self.old at.subject ≡ Some p → self.new ≡ (ended self.old at p references (Faults cause)).state }
-        ensures items { (p : Process) → process_of self.old at.subject ≡ Some p → items_of result.items ≡ (ended self.old at p references (Faults cause)).items }
-        ensures references { (p : Process) → process_of self.old at.subject ≡ Some p → result.references ≡ (ended self.old at p references (Faults cause)).references }
-        ensures order { IsInOrder result.items }
-        ensures answered { All IsAnswered (items_of result.items) }
+    fn end_in(&mut self, at: At, cause: Cause) -> Items
+        requires { at.subject ≡ self.old.loaded }
+        ensures state { (p : Process) → process_of self.old.state at.subject ≡ Some p → self.new.state ≡ (ended self.old.state at p 0 (Faults cause)).state }
+        ensures items { (p : Process) → process_of self.old.state at.subject ≡ Some p → items_of result ≡ (ended self.old.state at p 0 (Faults cause)).items }
+        ensures references { (p : Process) → process_of self.old.state at.subject ≡ Some p → self.new.machine.references ≡ counted_on self.old.machine.references (ended self.old.state at p 0 (Faults cause)).references }
+        ensures order { IsInOrder result }
+        ensures answered { All IsAnswered (items_of result) }
+        ensures loaded { self.new.loaded ≡ self.old.loaded }
+        ensures runs { self.new.machine.runs ≡ self.old.machine.runs }
+        ensures last { self.new.machine.last ≡ self.old.machine.last }
     {
-        let fault = self.fault(at.subject, cause);
-        Turned {
-            items: (Some(fault_item(at, fault)), None),
-            references: references + fault.references,
-        }
+        let fault = self.fault(cause);
+        (Some(fault_item(at, fault)), None)
     }
 
     // What an instruction that ended so does.
-    fn end(&mut self, at: At, executed: Executed) -> Turned
-        requires there { at.subject < length self.old.processes }
-        requires few { executed.references ≤ 8 }
-        ensures state { (p : Process) → process_of self.old at.subject ≡ Some p → self.new ≡ (ended self.old at p executed.references executed.event).state }
-        ensures items { (p : Process) → process_of self.old at.subject ≡ Some p → items_of result.items ≡ (ended self.old at p executed.references executed.event).items }
-        ensures references { (p : Process) → process_of self.old at.subject ≡ Some p → result.references ≡ (ended self.old at p executed.references executed.event).references }
-        ensures order { IsInOrder result.items }
-        ensures answered { All IsAnswered (items_of result.items) }
+    fn end(&mut self, at: At, event: Event) -> Items
+        requires { at.subject ≡ self.old.loaded }
+        ensures state { (p : Process) → process_of self.old.state at.subject ≡ Some p → self.new.state ≡ (ended self.old.state at p 0 event).state }
+        ensures items { (p : Process) → process_of self.old.state at.subject ≡ Some p → items_of result ≡ (ended self.old.state at p 0 event).items }
+        ensures references { (p : Process) → process_of self.old.state at.subject ≡ Some p → self.new.machine.references ≡ counted_on self.old.machine.references (ended self.old.state at p 0 event).references }
+        ensures order { IsInOrder result }
+        ensures answered { All IsAnswered (items_of result) }
+        ensures runs { self.new.machine.runs ≡ self.old.machine.runs }
+        ensures last { self.new.machine.last ≡ self.old.machine.last }
     {
-        match executed.event {
-            Event::Ran => Turned {
-                items: (None, None),
-                references: executed.references,
-            },
-            Event::Call(number) => Turned {
-                items: self.settle(at, number),
-                references: executed.references,
-            },
-            Event::Fault(cause) => self.end_in(at, cause, executed.references),
+        match event {
+            Event::Ran => (None, None),
+            Event::Call(number) => self.settle(at, number),
+            Event::Fault(cause) => self.end_in(at, cause),
         }
     }
 
-    // A turn of a process that runs.
-    fn take(&mut self, at: At) -> Turned
-        requires { at.subject < length self.old.processes }
-        ensures state { (p : Process) → process_of self.old at.subject ≡ Some p → self.new ≡ (executed self.old at p (exec (space_of self.old at.subject p.windows) p.registers)).state }
-        ensures items { (p : Process) → process_of self.old at.subject ≡ Some p → items_of result.items ≡ (executed self.old at p (exec (space_of self.old at.subject p.windows) p.registers)).items }
-        ensures references { (p : Process) → process_of self.old at.subject ≡ Some p → result.references ≡ (executed self.old at p (exec (space_of self.old at.subject p.windows) p.registers)).references }
+    // Turns of the loaded subject, whose process runs.
+    fn go_on(&mut self, at: At, most: u16) -> Stretch
+        requires loaded { at.subject ≡ self.old.loaded }
+        requires running { runs (process_of self.old.state at.subject) ≡ true }
+        requires some { 1 ≤ most }
+        requires numbered { at.turn + most ≤ 65536 }
+        ensures made { IsStretch self.old self.new at most result.turns result.items }
         ensures order { IsInOrder result.items }
         ensures answered { All IsAnswered (items_of result.items) }
     {
-        let executed = self.instruct(at.subject);
-        self.end(at, executed)
+        let ran = self.run(most);
+        let last = At {
+            turn: at.turn + (ran.turns - 1),
+            ..at
+        };
+        Stretch {
+            turns: ran.turns,
+            items: self.end(last, ran.event),
+        }
     }
 
-    /// A turn.
-    #[tactic(auto, unfolding(bk_system::specs::Turn::turn_of))]
-    pub(crate) fn turn(&mut self, at: At) -> Turned
-        ensures state { self.new ≡ (turn_of at self.old).state }
-        ensures items { items_of result.items ≡ (turn_of at self.old).items }
-        ensures references { result.references ≡ (turn_of at self.old).references }
+    /// Turns of a subject, from that one on: at least one and at most so many, up to the first that gives items.
+    pub(crate) fn stretch(&mut self, at: At, most: u16) -> Stretch
+        requires some { 1 ≤ most }
+        requires numbered { at.turn + most ≤ 65536 }
+        ensures made { IsStretch self.old self.new at most result.turns result.items }
         ensures order { IsInOrder result.items }
         ensures answered { All IsAnswered (items_of result.items) }
     {
         if self.runs(at.subject) {
-            self.take(at)
+            self.load(at.subject);
+            self.go_on(at, most)
         } else {
-            idle()
+            Stretch {
+                turns: most,
+                items: (None, None),
+            }
         }
     }
 }

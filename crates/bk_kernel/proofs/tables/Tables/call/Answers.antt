@@ -1,29 +1,88 @@
-use Rattle.std.proofs.Common.{◌≡◌, ◌<◌, ◌∙◌, ℕ, Some, length, refl, ap, arith}
-use Rattle.std.specs.Prelude.{option_map}
+use Rattle.std.proofs.Common.{◌≡◌, ◌<◌, ◌∙◌, ℕ, Some, length, refl, sym, ap, subst, arith}
+use Rattle.std.specs.Prelude.{option_map, slice_set}
 use Rattle.bk_calls.specs.Made.{answer_of, line_byte, seen_by}
 use Rattle.bk_calls.specs.declared.caller.Caller.{Caller}
+use Rattle.bk_core.specs.Memory.{Memory}
+use Rattle.bk_load.specs.Kept.{IsKept}
+use Rattle.bk_machine.specs.Machine.{MachineState, kernel_words}
 use Rattle.bk_process.specs.declared.process.Process.{Process}
 use Rattle.bk_state.specs.Answers.{Called, called}
 use Rattle.bk_state.specs.State.{State, process_of}
+use Rattle.bk_kernel.specs.Tables.{TablesState, served, state_from}
 use Rattle.bk_kernel.proofs.Kept.{call-alike, found-process, served-state}
+use Rattle.bk_kernel.proofs.Loading.{has-set, kept-set, loaded-there, set-loaded, set-nothing}
 use Rattle.bk_kernel.proofs.tables.Tables.call.Goals as goal
 
-pub returns : goal.returns
-returns c =
+pub invariant_of-self : goal.invariant_of-self
+invariant_of-self c =
     let t = c.self.inside in
-    let v : State = c.args.self.now in
-    let s : ℕ = c.args.subject in
-    let q : Process = c.index_mut-process.result.now in
-    let caller : Caller = record { subject = s; f_s = c.index-levels.result.now.greatest; f_c = c.index-levels.result.now.current; subjects = c.len.result } in
-    let below : s < length t.clearances.items = omega (arith, c.requires, ap (λ (x : State). length x.processes) c.self.view_is, c.self.invariant.processes_are) in
-    let alike : (p : Process) → process_of v s ≡ Some p → called (seen_by caller t.store t.core.words) s q c.args.number ≡ called v s p c.args.number = λ p there.
-    call-alike t.clearances.items t.lines.items t.turns t.schedule.items t.processes.items t.store t.core.words v caller q c.args.number c.index-levels.result.now
-    c.self.view_is below (omega (arith, c.len.ensures, t.clearances.ok.0)) c.index-levels.ensures refl refl
-    ∙ ap (λ (x : Process). called v s x c.args.number) (found-process t.processes.items v s p q (ap (λ (x : State). x.processes) c.self.view_is) there c.index_mut-process.ensures.value) in
+    let q = c.call-reply.new.process in
+    let lent : MachineState = record t.machine { core = c.call-reply.new.core } in
+    let (p, there, old) = loaded-there t.processes.items t.store t.machine t.loaded c.self.invariant.loaded in
     record {
-      state = λ p there. served-state t.clearances.items t.lines.items t.turns t.schedule.items t.processes.items t.store c.call.new.store t.core.words c.call.new.core.words v s c.call.new.process (called v s p c.args.number)
-          c.self.view_is c.call.ensures.levels (c.call.ensures.objects ∙ ap (λ (x : Called). x.objects) (alike p there)) (c.call.ensures.access ∙ ap (λ (x : Called). x.access) (alike p there))
-          (c.call.ensures.process ∙ ap (λ (x : Called). x.process) (alike p there));
-      answer = λ p there. c.call.ensures.answer ∙ ap (λ (x : Called). answer_of x.cause) (alike p there);
-      sent = λ p there. c.call.ensures.sent ∙ ap (λ (x : Called). option_map line_byte x.sent) (alike p there);
+      tables = kept-set t.processes.items t.loaded q
+          (subst (λ n. IsKept t.clearances.items (length t.lines.items) (length t.processes.items) n c.call-reply.new.store.lines) (sym (ap length c.call-reply.ensures.levels))
+          (subst (λ n. IsKept t.clearances.items (length t.lines.items) (length t.processes.items) (length t.store.levels) n) (sym c.call-reply.ensures.lines) c.self.invariant.tables));
+      loaded = has-set t.processes.items c.call-reply.new.store c.set_pages.new.machine t.loaded q c.self.invariant.loaded.there
+          (set-loaded lent c.set_process.new.self c.set_pages.new.machine c.call-reply.new.store t.loaded q c.set_process.ensures c.set_pages.ensures.rest c.set_pages.ensures.pages old.outside
+          (c.law_vectors.ensures.kept t.machine.core.words c.call-reply.new.core.words (c.call-reply.ensures.kernel ∙ ap (λ (m : Memory). kernel_words m.words) c.core_mut-core.ensures.value) old.vectors));
     }
+
+pub returns-clause-state : goal.returns-clause-state
+returns-clause-state c =
+    let t = c.self.inside in
+    let s : ℕ = t.loaded in
+    let q : Process = c.index_mut-process.result.now in
+    let v : State = state_from t.clearances.items t.lines.items t.turns t.schedule.items t.processes.items t.store t.machine.core.words in
+    let lent : MachineState = record t.machine { core = c.call-reply.new.core } in
+    let caller : Caller = record { subject = s; f_s = c.index-levels.result.now.greatest; f_c = c.index-levels.result.now.current; subjects = c.len.result } in
+    let below : s < length t.clearances.items = omega (arith, c.self.invariant.loaded.there, c.self.invariant.tables.processes_are) in
+    let core : c.set_pages.new.machine.core ≡ c.call-reply.new.core = (set-nothing lent c.set_process.new.self c.set_pages.new.machine c.call-reply.new.process c.set_process.ensures c.set_pages.ensures.rest).1 in
+    let made : (p : Process) → process_of v s ≡ Some p →
+    state_from t.clearances.items t.lines.items t.turns t.schedule.items (slice_set t.processes.items s c.call-reply.new.process) c.call-reply.new.store c.set_pages.new.machine.core.words ≡ served v s (called v s p c.args.number) = λ p there.
+    let alike : called (seen_by caller t.store c.core_mut-core.result.now.words) s q c.args.number ≡ called v s p c.args.number =
+    ap (λ (m : Memory). called (seen_by caller t.store m.words) s q c.args.number) c.core_mut-core.ensures.value
+    ∙ call-alike t.clearances.items t.lines.items t.turns t.schedule.items t.processes.items t.store t.machine.core.words v caller q c.args.number c.index-levels.result.now
+    refl below (omega (arith, c.len.ensures, t.clearances.ok.0)) c.index-levels.ensures refl refl
+    ∙ ap (λ (x : Process). called v s x c.args.number) (found-process t.processes.items v s p q refl there c.index_mut-process.ensures.value) in
+    ap (λ (m : Memory). state_from t.clearances.items t.lines.items t.turns t.schedule.items (slice_set t.processes.items s c.call-reply.new.process) c.call-reply.new.store m.words) core
+    ∙ served-state t.clearances.items t.lines.items t.turns t.schedule.items t.processes.items t.store c.call-reply.new.store t.machine.core.words c.call-reply.new.core.words v s c.call-reply.new.process (called v s p c.args.number)
+    refl c.call-reply.ensures.levels (c.call-reply.ensures.objects ∙ ap (λ (x : Called). x.objects) alike) (c.call-reply.ensures.access ∙ ap (λ (x : Called). x.access) alike)
+    (c.call-reply.ensures.process ∙ ap (λ (x : Called). x.process) alike) in
+    subst (λ (old : TablesState). (p : Process) → process_of old.state old.loaded ≡ Some p →
+    state_from t.clearances.items t.lines.items t.turns t.schedule.items (slice_set t.processes.items s c.call-reply.new.process) c.call-reply.new.store c.set_pages.new.machine.core.words
+    ≡ served old.state old.loaded (called old.state old.loaded p c.args.number)) c.self.view_is made
+
+pub returns-clause-answer : goal.returns-clause-answer
+returns-clause-answer c =
+    let t = c.self.inside in
+    let s : ℕ = t.loaded in
+    let q : Process = c.index_mut-process.result.now in
+    let v : State = state_from t.clearances.items t.lines.items t.turns t.schedule.items t.processes.items t.store t.machine.core.words in
+    let caller : Caller = record { subject = s; f_s = c.index-levels.result.now.greatest; f_c = c.index-levels.result.now.current; subjects = c.len.result } in
+    let below : s < length t.clearances.items = omega (arith, c.self.invariant.loaded.there, c.self.invariant.tables.processes_are) in
+    subst (λ (old : TablesState). (p : Process) → process_of old.state old.loaded ≡ Some p → c.call-reply.result.answer ≡ answer_of (called old.state old.loaded p c.args.number).cause) c.self.view_is
+    (λ p there.
+    c.call-reply.ensures.answer
+    ∙ ap (λ (x : Called). answer_of x.cause)
+    (ap (λ (m : Memory). called (seen_by caller t.store m.words) s q c.args.number) c.core_mut-core.ensures.value
+    ∙ call-alike t.clearances.items t.lines.items t.turns t.schedule.items t.processes.items t.store t.machine.core.words v caller q c.args.number c.index-levels.result.now
+    refl below (omega (arith, c.len.ensures, t.clearances.ok.0)) c.index-levels.ensures refl refl
+    ∙ ap (λ (x : Process). called v s x c.args.number) (found-process t.processes.items v s p q refl there c.index_mut-process.ensures.value)))
+
+pub returns-clause-sent : goal.returns-clause-sent
+returns-clause-sent c =
+    let t = c.self.inside in
+    let s : ℕ = t.loaded in
+    let q : Process = c.index_mut-process.result.now in
+    let v : State = state_from t.clearances.items t.lines.items t.turns t.schedule.items t.processes.items t.store t.machine.core.words in
+    let caller : Caller = record { subject = s; f_s = c.index-levels.result.now.greatest; f_c = c.index-levels.result.now.current; subjects = c.len.result } in
+    let below : s < length t.clearances.items = omega (arith, c.self.invariant.loaded.there, c.self.invariant.tables.processes_are) in
+    subst (λ (old : TablesState). (p : Process) → process_of old.state old.loaded ≡ Some p → c.call-reply.result.sent ≡ option_map line_byte (called old.state old.loaded p c.args.number).sent) c.self.view_is
+    (λ p there.
+    c.call-reply.ensures.sent
+    ∙ ap (λ (x : Called). option_map line_byte x.sent)
+    (ap (λ (m : Memory). called (seen_by caller t.store m.words) s q c.args.number) c.core_mut-core.ensures.value
+    ∙ call-alike t.clearances.items t.lines.items t.turns t.schedule.items t.processes.items t.store t.machine.core.words v caller q c.args.number c.index-levels.result.now
+    refl below (omega (arith, c.len.ensures, t.clearances.ok.0)) c.index-levels.ensures refl refl
+    ∙ ap (λ (x : Process). called v s x c.args.number) (found-process t.processes.items v s p q refl there c.index_mut-process.ensures.value)))
