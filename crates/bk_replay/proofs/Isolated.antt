@@ -1,5 +1,5 @@
 -- The report of an image and a script is isolated: what holds of its bytes by the laws.
-use Rattle.std.proofs.Common.{◌≡◌, ℕ, List, [], length, drop, Some, None, IfSome, ap, ◌∙◌, Ok, Err}
+use Rattle.std.proofs.Common.{◌≡◌, ℕ, List, length, drop, Some, None, ap, ◌∙◌, Ok, Err}
 use Rattle.std.specs.Prelude.{Option, Result, IsOk}
 use Rattle.std.specs.Io.KnownBytes.{Appends}
 use Rattle.std.proofs.Math.Seq.{drop-append_seam}

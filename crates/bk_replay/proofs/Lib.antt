@@ -5,3 +5,4 @@ pub mod Input
 pub mod Whole
 pub mod Answered
 pub mod Isolated
+pub mod Pieces

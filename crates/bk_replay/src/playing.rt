@@ -1,21 +1,24 @@
 // All the slots of a run, and its END line.
 
-ghost use Rattle.std.specs.Prelude.{◌≡◌, ◌≤◌, length, take, drop, Ok, Err, IfOk, OnOk, OnErr};
+ghost use Rattle.std.specs.Prelude.{◌≡◌, ◌≤◌, ◌++◌, [], length, take, drop, Ok, Err, IfOk, OnOk, OnErr};
 ghost use Rattle.bk_base.specs.Written.{Took, Broke};
 ghost use Rattle.bk_script.specs.Script.{IsInOrder, IsScript};
 ghost use Rattle.bk_image.specs.Accepted.{IsAccepted};
+ghost use Rattle.bk_state.specs.Start.{state_of};
 ghost use Rattle.bk_system.specs.Report.{report_of};
 ghost use Rattle.bk_kernel.specs.Progress.{begun};
 ghost use Rattle.bk_report.specs.Text.{lines_of};
 ghost use Rattle.bk_system.specs.Loops.{slots_of};
 ghost use Rattle.bk_replay.specs.Played.{count_front, after_slots, summary_of, end_text};
 
+use crate::gathered::{Gathered, Start};
 use bk_base::{Failed, NoMemory, Sink, write_all};
 use bk_kernel::{Kernel, Summary};
 use bk_report::{ReportItem, print};
 use bk_state::Image;
 use bk_system::{Script, TypedAt};
 use std::alloc::Global;
+use std::marker::Brand;
 
 /// Why a run isn't played to its end.
 #[derive(Clone, Copy, PartialEq, Eq, Debug)]
@@ -84,8 +87,65 @@ fn play_slots<O: Sink>(kernel: &mut Kernel, script: &Script, out: &mut O) -> Res
     Ok(())
 }
 
-/// Plays a script over an image: all its slots, and the END line with the totals, which it answers. A refused write leaves
-/// a front of the report on the sink; where memory runs out nothing has gone out.
+/// Plays a script on a kernel that has begun: all its slots, and the END line with the totals, which it answers.
+fn play_kernel<O: Sink>(
+    kernel: &mut Kernel,
+    image: &Image,
+    script: &Script,
+    out: &mut O,
+) -> Result<Summary, Failed>
+    requires begun { kernel.old ≡ begun (state_of image.now) }
+    requires script { IsScript image.now.lines image.now.turns script.now.typed script.now.slots }
+    ensures totals { IfOk result (λ summary. summary ≡ summary_of image.now script.now.typed script.now.slots) }
+    ensures written { OnOk result (Took (O.taken out.old) (O.taken out.new) (O.faults out.old) (O.faults out.new) (report_of image.now script.now.typed script.now.slots)) }
+    ensures failed { OnErr result (Broke (O.taken out.old) (O.taken out.new) (O.faults out.old) (O.faults out.new) (report_of image.now script.now.typed script.now.slots)) }
+{
+    play_slots(kernel, script, out)?;
+    let summary = kernel.summary();
+    write_end(&summary, out)?;
+    Ok(summary)
+}
+
+/// Plays it so that what waits at the end goes out too.
+fn play_gathered<O: Sink, L: Start>(
+    kernel: &mut Kernel,
+    image: &Image,
+    script: &Script,
+    out: &mut Gathered<'_, O, L>,
+) -> Result<Summary, Failed>
+    requires begun { kernel.old ≡ begun (state_of image.now) }
+    requires script { IsScript image.now.lines image.now.turns script.now.typed script.now.slots }
+    requires fresh { out.old.history.given ++ out.old.waiting.put ≡ [] }
+    ensures same_reference { out.new.out.ghost_name ≡ out.old.out.ghost_name }
+    ensures totals { IfOk result (λ summary. summary ≡ summary_of image.now script.now.typed script.now.slots) }
+    ensures written { OnOk result (Took L.told (O.taken out.new.out.now) (O.faults out.old.out.now) (O.faults out.new.out.now) (report_of image.now script.now.typed script.now.slots)) }
+    ensures failed { OnErr result (Broke L.told (O.taken out.new.out.now) (O.faults out.old.out.now) (O.faults out.new.out.now) (report_of image.now script.now.typed script.now.slots)) }
+{
+    let summary = play_kernel(kernel, image, script, out)?;
+    out.empty()?;
+    Ok(summary)
+}
+
+/// Plays it so that the sink takes the report in pieces of 4,096 bytes.
+fn play_in_pieces<O: Sink, L: Start>(
+    kernel: &mut Kernel,
+    image: &Image,
+    script: &Script,
+    out: &mut O,
+) -> Result<Summary, Failed>
+    requires begun { kernel.old ≡ begun (state_of image.now) }
+    requires script { IsScript image.now.lines image.now.turns script.now.typed script.now.slots }
+    requires start { L.told ≡ O.taken out.now }
+    ensures totals { IfOk result (λ summary. summary ≡ summary_of image.now script.now.typed script.now.slots) }
+    ensures written { OnOk result (Took (O.taken out.old) (O.taken out.new) (O.faults out.old) (O.faults out.new) (report_of image.now script.now.typed script.now.slots)) }
+    ensures failed { OnErr result (Broke (O.taken out.old) (O.taken out.new) (O.faults out.old) (O.faults out.new) (report_of image.now script.now.typed script.now.slots)) }
+{
+    let mut gathered: Gathered<'_, O, L> = Gathered::new(out);
+    play_gathered(kernel, image, script, &mut gathered)
+}
+
+/// Plays a script over an image: all its slots, and the END line with the totals, which it answers. The report goes out in
+/// pieces of 4,096 bytes. A refused write leaves a front of it on the sink; where memory runs out nothing has gone out.
 pub fn play<O: Sink>(
     alloc: Global,
     image: &Image,
@@ -100,9 +160,7 @@ pub fn play<O: Sink>(
     ensures memory { result ≡ Err PlayStop.NoMemory → out.new ≡ out.old }
 {
     let mut kernel = Kernel::boot(alloc, image)?;
-    play_slots(&mut kernel, script, out)?;
-    let summary = kernel.summary();
-    write_end(&summary, out)?;
+    let summary = play_in_pieces::<O, Brand>(&mut kernel, image, script, out)?;
     Ok(summary)
 }
 

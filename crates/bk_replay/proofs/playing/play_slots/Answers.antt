@@ -1,4 +1,4 @@
-use Rattle.std.proofs.Common.{◌≡◌, ◌∙◌, ◌<◌, ◌+◌, ◌++◌, ◌^◌, ℕ, List, take, drop, refl, sym, ap, subst, arith, add-one}
+use Rattle.std.proofs.Common.{◌≡◌, ◌∙◌, ◌<◌, ◌+◌, ◌++◌, ◌^◌, ℕ, List, drop, refl, sym, ap, subst, arith, add-one}
 use Rattle.bk_base.specs.Written.{Broke}
 use Rattle.bk_base.proofs.Written.{took_nil, took_then, broke_then, broke_within, on_err_any}
 use Rattle.bk_report.specs.Text.{lines_of}

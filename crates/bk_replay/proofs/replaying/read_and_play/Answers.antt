@@ -1,4 +1,4 @@
-use Rattle.std.proofs.Common.{◌≡◌, ◌∙◌, ◌<◌, ℕ, List, drop, refl, sym, ap, subst, arith, Ok, Err}
+use Rattle.std.proofs.Common.{◌≡◌, ◌∙◌, ℕ, List, drop, refl, sym, ap, subst, arith, Ok, Err}
 use Rattle.bk_image.specs.declared.fault.ImageFault.{ImageFault}
 use Rattle.bk_base.specs.declared.stop.Stop.{Stop}
 use Rattle.bk_base.specs.Faults.{Gives, Refuses}
