@@ -1,4 +1,0 @@
-pub mod Seen
-pub mod Written
-pub mod Alike
-pub mod Reflected
