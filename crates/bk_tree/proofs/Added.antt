@@ -60,7 +60,7 @@ module _ (m : Objects) (kept : IsKept m) (e : ℕ) (p : Path) (x : Placed) (free
       by true tie = absurd (cc (sym h ∙ ap (get m) (tied_path q (e ∷ p) tie) ∙ free))
       by false tie = h
 
-  smaller : IsSmaller m added
+  pub smaller : IsSmaller m added
   smaller q b h = (b, still_there q b h, refl)
 
   directory_there : (q : Path) → HasDirectory m q → HasDirectory added q

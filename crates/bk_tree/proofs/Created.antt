@@ -57,7 +57,7 @@ module _ (m : Objects) (kept : IsKept m) (e : ℕ) (p : Path) (x : Placed) (free
 
 -- where the charge fits, a place is free
 pub some_free : (places : List (Option Object)) (tree : IsTree places) (path : Path) (facts : Facts) → path ≢ [] → get (tree_of places) path ≡ None → HasDirectory (tree_of places) (parent path) →
-    IsFit facts (level_in facts_of (tree_of places) (parent path)) → Fits (tree_of places) path facts → (o : Option Slot) → IfNone o (IsFull places (length places)) → IsSome o
+    IsFit facts (level_in facts_of (tree_of places) (parent path)) → Fits (tree_of places) path facts → {X : Type 0} → (o : Option X) → IfNone o (IsFull places (length places)) → IsSome o
 some_free places tree [] facts below free above fit fits o full = absurd (below refl)
 some_free places tree (e ∷ p) facts below free above fit fits (Some slot) full = refl
 some_free places tree (e ∷ p) facts below free above fit fits None full =
@@ -170,7 +170,7 @@ module _ (places : List (Option Object)) (tree : IsTree places) (m : Objects) (v
   fits_here : Fits (tree_of places) path facts
   fits_here = subst (λ t. Fits t path facts) (sym view) fits
 
-  pub created_free : (seen : List (Option Object)) → seen ≡ places → (o : Option Slot) → IfNone o (IsFull seen (length seen)) → IsSome o
+  pub created_free : (seen : List (Option Object)) → seen ≡ places → {X : Type 0} → (o : Option X) → IfNone o (IsFull seen (length seen)) → IsSome o
   created_free seen same o full = some_free places tree path facts below free_here above_here fit_here fits_here o (subst (λ xs. IfNone o (IsFull xs (length xs))) same full)
 
   module _ (new : List (Option Object)) (k : ℕ) (at : slice_get places k ≡ Some None) (is : new ≡ set places k (held path facts)) where
@@ -179,7 +179,3 @@ module _ (places : List (Option Object)) (tree : IsTree places) (m : Objects) (v
 
     pub created_map : tree_of new ≡ insert m path (record { slot = k; facts = facts })
     created_map = ap tree_of is ∙ tree_of-filled places tree k path facts at free_here ∙ ap (λ t. insert t path (record { slot = k; facts = facts })) view
-
--- the place that is found is free
-pub free_place : (seen places : List (Option Object)) → seen ≡ places → (o : Option Slot) (slot : Slot) → o ≡ Some slot → IfSome o (λ slot. slice_get seen slot.n ≡ Some None) → slice_get places slot.n ≡ Some None
-free_place seen places same o slot is some = sym (ap (λ xs. slice_get xs slot.n) same) ∙ subst (λ (o : Option Slot). IfSome o (λ slot. slice_get seen slot.n ≡ Some None)) is some

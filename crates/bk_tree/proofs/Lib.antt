@@ -5,8 +5,13 @@ pub mod Room
 pub mod Added
 pub mod Keeping
 pub mod Changed
-pub mod Leaves
 pub mod Counted
 pub mod Fitting
 pub mod Created
 pub mod Tested
+pub mod KeyLemmas
+pub mod OrderLemmas
+pub mod Indexed
+pub mod CellLemmas
+pub mod Vacant
+pub mod Kept

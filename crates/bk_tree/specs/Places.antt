@@ -13,11 +13,6 @@ use Rattle.bk_quota.specs.Charges.{share_in}
 use Rattle.bk_tree.specs.Objects.{Objects, facts_of}
 use Rattle.bk_tree.specs.Kept.{IsKept}
 
--- the place holds the object at the path
-abbrev pub is_of : Path → Option Object → Bool
-is_of path None = false
-is_of path (Some object) = eq_by_cmp path_cmp path object.path
-
 -- what the places hold, the first of them having that number
 abbrev pub entries_from : ℕ → List (Option Object) → List (Path × Placed)
 entries_from n [] = []
@@ -27,11 +22,6 @@ entries_from n (Some object ∷ places) = (object.path, record { slot = n; facts
 -- the map that a list of places stands for
 abbrev pub tree_of : List (Option Object) → Objects
 tree_of places = map.from_entries (entries_from 0 places)
-
--- what the object that has the place adds to the used number of the cell
-abbrev pub share_of : Objects → (cell : Path) → Option Object → ℕ
-share_of m cell None = 0
-share_of m cell (Some object) = share_in facts_of m cell object.path object.facts
 
 -- no path stands at two places
 abbrev pub IsApart : List (Option Object) → Type 0
@@ -49,19 +39,6 @@ pub record IsTree (places : List (Option Object)) : Type 0 where
   pub rooted : (root : Facts) × IsRooted places root
   pub short : length places ≤ largest_quota
   pub kept : IsKept (tree_of places)
-
--- 1 and the depth of an inferior of the path; 0 for a free place and for what is no inferior
-abbrev pub rank_in : (of : Path) → Option Object → ℕ
-rank_in of None = 0
-rank_in of (Some object) = if is_inferior object.path of then 1 + length object.path else 0
-
--- that of what the place with this number holds
-abbrev pub rank_at : (of : Path) → List (Option Object) → ℕ → ℕ
-rank_at of places place = unwrap_or (option_map (rank_in of) (slice_get places place)) 0
-
--- none of the first places has a higher rank
-abbrev pub IsHighest : (of : Path) → List (Option Object) → (first rank : ℕ) → Type 0
-IsHighest of places first rank = (place : ℕ) → place < first → rank_at of places place ≤ rank
 
 -- none of the first places is free
 abbrev pub IsFull : List (Option Object) → (first : ℕ) → Type 0

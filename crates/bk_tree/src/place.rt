@@ -1,17 +1,13 @@
 // The list of places, and what is looked up in it.
 
-ghost use Rattle.std.specs.Prelude.{◌≡◌, ◌≤◌, ◌<◌, ◌↔◌, IsTrue, length, option_map, slice_get, slice_set, IfNone, IfOk, IfSome, None, Some, replicate};
-ghost use Rattle.std.specs.FinMap as map;
-ghost use Rattle.bk_object.specs.Limits.{largest_quota};
-ghost use Rattle.bk_path.specs.Paths.{path_cmp};
-ghost use Rattle.bk_tree.specs.Objects.{slot_of};
+ghost use Rattle.std.specs.Prelude.{◌≡◌, ◌+◌, ◌-◌, ◌<◌, ◌≤◌, ◌↔◌, ◌++◌, ◌∷◌, [], IsTrue, length, slice_get, slice_index_or, slice_set, IfOk, None, Some, replicate};
+ghost use Rattle.std.specs.Vec.{vec_capacity};
+ghost use Rattle.bk_quota.specs.Usage.{Usage, charged};
 ghost use Rattle.bk_tree.specs.declared.place.Object.{Object as Held};
-ghost use Rattle.bk_tree.specs.Places.{entries_from, is_of, rank_at, rank_in, IsFull, IsHighest};
 
-use bk_base::NoMemory;
 use bk_object::{Facts, Row, Slot};
 use bk_path::Path;
-use std::alloc::Global;
+use bk_quota::Cell;
 
 /// What the tree keeps of a path: the number of its slot, and the facts of its object.
 #[derive(Clone, Copy, Debug)]
@@ -27,68 +23,10 @@ pub(crate) struct Object {
     pub(crate) facts: Facts,
 }
 
-// So many places, all free.
-pub(crate) fn free_places(alloc: Global, slots: u16) -> Result<Vec<Option<Object>>, NoMemory>
-    ensures { IfOk result (λ places. places.items ≡ replicate slots None) }
-{
-    let mut places = Vec::with_capacity(alloc, slots as usize)?;
-    for done in 0..slots {
-        match places.push(None) {
-            Ok(()) => {}
-            Err(_) => return Err(NoMemory),
-        }
-    }
-    Ok(places)
-}
-
-// The place of the object at the path, searched from the front.
-pub(crate) fn scan(places: &[Option<Object>], path: Path) -> Option<Slot>
-    requires { length places.now ≤ largest_quota }
-    ensures { result ≡ option_map slot_of (map.find path_cmp path (entries_from 0 places.now)) }
-{
-    for place in 0..places.len() {
-        if is_held_by(&places[place], path) {
-            return Some(Slot { n: place as u16 });
-        }
-    }
-    None
-}
-
-// Whether the object at the path has the place.
-fn is_held_by(place: &Option<Object>, path: Path) -> bool
-    ensures { result ≡ is_of path place.now }
-{
-    match place {
-        Some(object) => path == object.path,
-        None => false,
-    }
-}
-
-// The first free place.
-pub(crate) fn first_free(places: &[Option<Object>]) -> Option<Slot>
-    requires { length places.now ≤ largest_quota }
-    ensures some { IfSome result (λ slot. slice_get places.now slot.n ≡ Some None) }
-    ensures none { IfNone result (IsFull places.now (length places.now)) }
-{
-    for place in 0..places.len() {
-        if is_free(places, place) {
-            return Some(Slot { n: place as u16 });
-        }
-    }
-    None
-}
-
-fn is_free(places: &[Option<Object>], place: usize) -> bool
-    requires { place < length places.now }
-    ensures { IsTrue result ↔ (slice_get places.now place ≡ Some None) }
-{
-    places[place].is_none()
-}
-
 // The object that has the place.
-pub(crate) fn object_at(places: &[Option<Object>], slot: Slot) -> Object
-    requires { (held : Held) × (slice_get places.now slot.n ≡ Some (Some held)) }
-    ensures { slice_get places.now slot.n ≡ Some (Some result) }
+pub(crate) fn object_at(places: &Vec<Option<Object>>, slot: Slot) -> Object
+    requires { (held : Held) × (slice_get places.now.items slot.n ≡ Some (Some held)) }
+    ensures { slice_get places.now.items slot.n ≡ Some (Some result) }
 {
     places[slot.n as usize].unwrap()
 }
@@ -114,47 +52,49 @@ pub(crate) fn with_row(object: Object, row: Row) -> Object
     }
 }
 
-// The place of a deepest inferior of the path, if there is an inferior.
-pub(crate) fn deepest(places: &[Option<Object>], of: Path) -> Option<Slot>
-    requires { length places.now ≤ largest_quota }
-    ensures some { IfSome result (λ slot. (0 < rank_at of places.now slot.n) × IsHighest of places.now (length places.now) (rank_at of places.now slot.n)) }
-    ensures none { IfNone result (IsHighest of places.now (length places.now) 0) }
+// Takes a charge from the cell of the place: whether it fits. Where it doesn't, nothing changes.
+pub(crate) fn charge_at(cells: &mut Vec<Cell>, slot: Slot, charge: u16) -> bool
+    requires { (cell : Usage) × (slice_get cells.old.items slot.n ≡ Some cell) }
+    ensures fits { (cell : Usage) → slice_get cells.old.items slot.n ≡ Some cell → IsTrue result ↔ (cell.used + charge ≤ cell.limit) }
+    ensures after { (cell : Usage) → slice_get cells.old.items slot.n ≡ Some cell → cells.new.items ≡ slice_set cells.old.items slot.n (charged cell charge result) }
 {
-    let mut deepest = 0;
-    let mut rank = 0;
-    for place in 0..places.len() {
-        let here = rank_at(places, place, of);
-        if here > rank {
-            rank = here;
-            deepest = place;
-        }
-    }
-    if rank == 0 {
-        None
-    } else {
-        Some(Slot { n: deepest as u16 })
-    }
+    let mut cell = cell_at(cells, slot);
+    let fits = cell.charge(charge);
+    put_cell(cells, slot, cell);
+    fits
 }
 
-// 1 and the depth of the inferior of the path that has the place, or 0.
-fn rank_at(places: &[Option<Object>], place: usize, of: Path) -> u8
-    requires { place < length places.now }
-    ensures value { result ≡ rank_at of places.now place }
+// Gives a charge back to the cell of the place.
+pub(crate) fn give_back_at(cells: &mut Vec<Cell>, slot: Slot, charge: u16)
+    requires { (cell : Usage) × (slice_get cells.old.items slot.n ≡ Some cell) × (charge < cell.used) }
+    ensures { (cell : Usage) → slice_get cells.old.items slot.n ≡ Some cell → cells.new.items ≡ slice_set cells.old.items slot.n (record cell { used = cell.used - charge }) }
 {
-    rank_in(&places[place], of)
+    let mut cell = cell_at(cells, slot);
+    cell.give_back(charge);
+    put_cell(cells, slot, cell);
 }
 
-fn rank_in(place: &Option<Object>, of: Path) -> u8
-    ensures { result ≡ rank_in of place.now }
+// The cell of the place.
+pub(crate) fn cell_at(cells: &Vec<Cell>, slot: Slot) -> Cell
+    requires { (cell : Usage) × (slice_get cells.now.items slot.n ≡ Some cell) }
+    ensures { slice_get cells.now.items slot.n ≡ Some result }
 {
-    match place {
-        Some(object) => {
-            if object.path.is_inferior(of) {
-                1 + object.path.depth()
-            } else {
-                0
-            }
-        }
-        None => 0,
-    }
+    cells[slot.n as usize]
+}
+
+// The place has this cell from now on.
+pub(crate) fn put_cell(cells: &mut Vec<Cell>, slot: Slot, cell: Cell)
+    requires { slot.n < length cells.old.items }
+    ensures { cells.new.items ≡ slice_set cells.old.items slot.n cell }
+{
+    cells[slot.n as usize] = cell;
+}
+
+// The place is free from now on.
+pub(crate) fn push_free(free: &mut Vec<u16>, slot: Slot)
+    requires { length free.old.items < vec_capacity free.old }
+    ensures items { free.new.items ≡ free.old.items ++ slot.n ∷ [] }
+    ensures capacity { vec_capacity free.old ≤ vec_capacity free.new }
+{
+    let _ = free.push(slot.n);
 }

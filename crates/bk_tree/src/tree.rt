@@ -1,6 +1,6 @@
 // The tree: the map from paths to objects.
 
-ghost use Rattle.std.specs.Prelude.{◌≡◌, ◌≢◌, ◌<◌, IfErr, ℕ, ◌≤◌, ◌+◌, ◌↔◌, [], true, IfOk, IfSome, IsNone, option_map};
+ghost use Rattle.std.specs.Prelude.{◌≡◌, ◌≢◌, ◌<◌, IfErr, ℕ, ◌≤◌, ◌+◌, ◌-◌, ◌↔◌, [], true, IfOk, IfSome, IsNone, option_map};
 ghost use Rattle.std.specs.FinMap as map;
 ghost use Rattle.bk_object.specs.declared.Facts.{Facts as FactsValue};
 ghost use Rattle.bk_object.specs.Kinds.{is_directory};
@@ -10,14 +10,19 @@ ghost use Rattle.bk_quota.specs.Charges.{governing_in, level_in, quota_in};
 ghost use Rattle.bk_tree.specs.Kept.{cell_in, Fits, HasDirectory, IsFit, IsKept};
 ghost use Rattle.bk_tree.specs.Needs.{blocks_in, needs_in};
 ghost use Rattle.bk_tree.specs.Refused.{Refuses};
+ghost use Rattle.std.specs.Vec.{vec_capacity};
+ghost use Rattle.bk_tree.specs.Down.{down_to_1};
 ghost use Rattle.bk_tree.specs.Objects.{facts_of, CanGo, HasNone, HasSlot, IsAt, IsLeafOf, begun, slot_of, without};
 
-use crate::cells::{governing_cell, has_room, is_taken};
-use crate::place::{Object, deepest, first_free, free_places, object_at, put, scan, with_row};
+use crate::cells::{is_taken, level_at, payer};
+use crate::order::{Entry, enter, last_inferior, leave, slot_at};
+use crate::place::{
+    Object, cell_at, charge_at, give_back_at, object_at, push_free, put, put_cell, with_row,
+};
 use bk_base::NoMemory;
 use bk_object::{Facts, Row, Slot};
 use bk_path::Path;
-use bk_quota::Cell;
+use bk_quota::{Cell, charge_of};
 use std::alloc::Global;
 use std::marker::Model;
 
@@ -33,7 +38,14 @@ pub enum TreeNo {
 /// A map from paths to objects, each of which has a slot of its own.
 #[derive(Drop)]
 pub struct Tree {
+    // The object of each slot.
     places: Vec<Option<Object>>,
+    // The cell of each slot whose object has one.
+    cells: Vec<Cell>,
+    // The paths with their slots, sorted.
+    order: Vec<Entry>,
+    // The slots without an object, the next one last.
+    free: Vec<u16>,
 }
 
 impl Model for Tree {
@@ -47,11 +59,13 @@ impl Model for Tree {
 
     ghost coded = { map.code (coded_list coded_ℕ) placed.the_row.coded };
 
-    ghost use Rattle.bk_tree.specs.Places.{IsTree, tree_of};
+    ghost use Rattle.std.specs.Vec.{vec_capacity};
+    ghost use Rattle.bk_tree.specs.Places.{tree_of};
+    ghost use Rattle.bk_tree.specs.Whole.{IsWhole};
 
     ghost view = { λ tree. tree_of tree.places.items };
 
-    ghost invariant = { λ tree. IsTree tree.places.items };
+    ghost invariant = { λ tree. IsWhole tree.places.items tree.cells.items tree.order.items tree.free.items (vec_capacity tree.order) (vec_capacity tree.free) };
 }
 
 impl Tree {
@@ -63,13 +77,22 @@ impl Tree {
         requires slots { slots ≡ root.quota }
         ensures { IfOk result (λ tree. tree ≡ begun root) }
     {
-        let mut places = free_places(alloc, slots)?;
+        let mut places = vec![in alloc; None; slots as usize]?;
+        let cells = vec![in alloc; Cell::new(root.quota); slots as usize]?;
+        let mut order = Vec::with_capacity(alloc, slots as usize)?;
+        let free = all_but_first(alloc, slots)?;
         let held = Object {
             path: Path::root(),
             facts: root,
         };
         put(&mut places, Slot { n: 0 }, Some(held));
-        Ok(Tree { places })
+        enter(&mut order, Path::root(), Slot { n: 0 });
+        Ok(Tree {
+            places,
+            cells,
+            order,
+            free,
+        })
     }
 
     /// The slot of the object at the path: None exactly where no object is there.
@@ -78,7 +101,7 @@ impl Tree {
         ensures some { IfSome result (λ slot. HasSlot self.now slot.n) }
         ensures none { IsNone result ↔ IsNone (map.get self.now path) }
     {
-        scan(&self.places, path)
+        slot_at(&self.order, path)
     }
 
     /// The facts of the object.
@@ -109,12 +132,19 @@ impl Tree {
             (self.new ≡ map.insert self.old path (record { slot = slot.n; facts = facts }))) }
         ensures err { IfErr result (λ no. Refuses self.old path facts no × (self.new ≡ self.old)) }
     {
-        if is_taken(&self.places, path) {
+        if is_taken(&self.places, &self.order, path) {
             return Err(TreeNo::Taken);
         }
-        if has_room(&self.places, path, &facts) {
-            let slot = first_free(&self.places).unwrap();
+        let above = path.above();
+        let payer = payer(&self.places, &self.order, above);
+        let charge = charge_of(&facts, level_at(&self.places, &self.order, above));
+        if charge_at(&mut self.cells, payer, charge) {
+            let slot = Slot {
+                n: self.free.pop().unwrap(),
+            };
             put(&mut self.places, slot, Some(Object { path, facts }));
+            put_cell(&mut self.cells, slot, Cell::new(facts.quota));
+            enter(&mut self.order, path, slot);
             Ok(slot)
         } else {
             Err(TreeNo::Quota)
@@ -127,7 +157,8 @@ impl Tree {
         ensures { (path : PathValue) (facts : FactsValue) → IsAt self.now path directory.n facts →
             result ≡ cell_in self.now (governing_in facts_of self.now path) }
     {
-        governing_cell(&self.places, object_at(&self.places, directory).path)
+        let path = object_at(&self.places, directory).path;
+        cell_at(&self.cells, payer(&self.places, &self.order, path))
     }
 
     /// The slot of an inferior of the path without children: None exactly where no object is at the path or below it.
@@ -135,7 +166,7 @@ impl Tree {
         ensures some { IfSome result (λ slot. IsLeafOf self.now of slot.n) }
         ensures none { IsNone result ↔ HasNone self.now of }
     {
-        deepest(&self.places, of)
+        last_inferior(&self.order, of)
     }
 
     /// The object goes, and its slot is free. All else stays.
@@ -143,7 +174,14 @@ impl Tree {
         requires { CanGo self.old slot.n }
         ensures { (path : PathValue) (facts : FactsValue) → IsAt self.old path slot.n facts → self.new ≡ without self.old path }
     {
+        let object = object_at(&self.places, slot);
+        let above = object.path.above();
+        let payer = payer(&self.places, &self.order, above);
+        let charge = charge_of(&object.facts, level_at(&self.places, &self.order, above));
+        give_back_at(&mut self.cells, payer, charge);
+        leave(&mut self.order, object.path);
         put(&mut self.places, slot, None);
+        push_free(&mut self.free, slot);
     }
 
     /// Each slot is below root's quota, which is the number of slots, and no two paths have one slot.
@@ -173,4 +211,17 @@ impl Tree {
     {
         let _places = self.places.len();
     }
+}
+
+// The numbers from that below the last one down to 1.
+fn all_but_first(alloc: Global, slots: u16) -> Result<Vec<u16>, NoMemory>
+    requires { 1 ≤ slots }
+    ensures items { IfOk result (λ free. free.items ≡ down_to_1 (slots - 1)) }
+    ensures capacity { IfOk result (λ free. slots ≤ vec_capacity free) }
+{
+    let mut free = Vec::with_capacity(alloc, slots as usize)?;
+    for n in 1..slots {
+        push_free(&mut free, Slot { n: slots - n });
+    }
+    Ok(free)
 }

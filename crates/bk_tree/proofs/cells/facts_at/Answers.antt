@@ -1,14 +1,23 @@
-use Rattle.std.proofs.Common.{◌∙◌, sym}
-use Rattle.bk_tree.proofs.Found.{found_slot, facts_some, facts_none}
+use Rattle.std.proofs.Common.{◌≡◌, ◌∙◌, ap, sym, Option, Some, ℕ}
+use Rattle.std.specs.FinMap.{get}
+use Rattle.std.proofs.lemmas.Option.{same_Some}
+use Rattle.bk_tree.specs.declared.place.Placed.{Placed}
+use Rattle.bk_tree.specs.declared.place.Object.{Object}
+use Rattle.bk_tree.specs.Objects.{facts_of}
+use Rattle.bk_tree.specs.Places.{tree_of}
+use Rattle.std.specs.Prelude.{option_map}
+use Rattle.bk_tree.proofs.Found.{stands}
+use Rattle.bk_tree.proofs.Indexed.{found_there}
 use Rattle.bk_tree.proofs.cells.facts_at.Goals as goal
 
 pub object_at-requires : goal.object_at-requires
 object_at-requires c =
-    let (a, is, there) = found_slot c.args.places.now c.args.path c.in-Some.slot (sym c.in-Some.is ∙ c.scan.ensures) in
-    (record { path = c.args.path; facts = a.facts }, there)
+    let (a, there, slot) = found_there _ _ c.requires c.args.path c.in-Some.ensures.path c.in-Some.slot.n (sym c.in-Some.ensures.slot) in
+    (record { path = c.args.path; facts = a.facts }, stands c.args.places.now.items c.args.path c.in-Some.slot.n a.facts (there ∙ (λ i. Some (record { slot = slot i; facts = a.facts }))))
 
 pub returns-in-Some : goal.returns-in-Some
-returns-in-Some c = facts_some c.args.places.now c.args.path c.in-Some.slot c.object_at.result (sym c.in-Some.is ∙ c.scan.ensures) c.object_at.ensures
-
-pub returns-in-None : goal.returns-in-None
-returns-in-None c = facts_none c.args.places.now c.args.path (sym c.in-None.is ∙ c.scan.ensures)
+returns-in-Some c =
+    let (a, there, slot) = found_there _ _ c.requires c.args.path c.in-Some.ensures.path c.in-Some.slot.n (sym c.in-Some.ensures.slot) in
+    let at = stands c.args.places.now.items c.args.path c.in-Some.slot.n a.facts (there ∙ (λ i. Some (record { slot = slot i; facts = a.facts }))) in
+    let is : c.object_at.result ≡ record { path = c.args.path; facts = a.facts } = same_Some c.object_at.result (record { path = c.args.path; facts = a.facts }) (same_Some (Some c.object_at.result) (Some (record { path = c.args.path; facts = a.facts })) (sym c.object_at.ensures ∙ at)) in
+    ap (λ (o : Object). Some o.facts) is ∙ ap (option_map facts_of) (sym there)
