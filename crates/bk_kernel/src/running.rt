@@ -75,9 +75,9 @@ impl Tables {
         ensures nothing { RanNothing self.old.machine self.new.machine }
     {
         if self.loaded != subject {
-            let process = &self.processes[subject as usize];
-            self.machine.set_process(&process.registers);
-            set_pages(&mut self.machine, &self.store, subject, &process.windows);
+            let next = &self.processes[subject as usize];
+            self.machine.set_process(&next.registers);
+            set_pages(&mut self.machine, &self.store, subject, &next.windows);
             self.loaded = subject;
         }
     }

@@ -2,10 +2,11 @@
 
 mod runs;
 
+use bk_exec::Event;
 use bk_fixture::{Object, Part, SYSTEM, Subject, System, USER, line, segment};
 use bk_process::Status9;
 use bk_report::ReportItem;
-use bk_space::Mode;
+use bk_space::{Cause, Mode};
 use runs::{Wanted, booted, check, registers, status};
 use std::alloc::Global;
 use std::process::Abort as Ends;
@@ -58,6 +59,13 @@ F 2 0 0 1 000000 stop
     )?;
     assert_eq!(rt; status(&rt, &kernel, 0), Status9::Stopped(1));
     assert_eq!(rt; status(&rt, &kernel, 1), Status9::Stopped(8));
+    // The last instruction is the first one again, which finds its window without access.
+    let last = kernel
+        .machine()
+        .last()
+        .map(|ran| (ran.before.pc, ran.event));
+    assert_eq!(rt; kernel.machine().runs(), 5);
+    assert_eq!(rt; last, Some((0, Event::Fault(Cause::NonResident))));
     Ok(())
 }
 

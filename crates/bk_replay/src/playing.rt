@@ -72,11 +72,11 @@ fn split_slot(records: &[TypedAt], slot: u32) -> (&[TypedAt], &[TypedAt])
 
 /// All the slots, one after another. The kernel has ended none.
 fn play_slots<O: Sink>(kernel: &mut Kernel, script: &Script, out: &mut O) -> Result<(), Failed>
-    requires begun { kernel.old ≡ begun kernel.old.state }
+    requires begun { kernel.old.progress ≡ begun kernel.old.progress.state }
     requires order { IsInOrder script.now.typed }
-    ensures after { OnOk result (kernel.new ≡ after_slots kernel.old.state script.now.typed script.now.slots) }
-    ensures written { OnOk result (Took (O.taken out.old) (O.taken out.new) (O.faults out.old) (O.faults out.new) (lines_of (slots_of kernel.old.state script.now.typed script.now.slots).items)) }
-    ensures failed { OnErr result (Broke (O.taken out.old) (O.taken out.new) (O.faults out.old) (O.faults out.new) (lines_of (slots_of kernel.old.state script.now.typed script.now.slots).items)) }
+    ensures after { OnOk result (kernel.new.progress ≡ after_slots kernel.old.progress.state script.now.typed script.now.slots) }
+    ensures written { OnOk result (Took (O.taken out.old) (O.taken out.new) (O.faults out.old) (O.faults out.new) (lines_of (slots_of kernel.old.progress.state script.now.typed script.now.slots).items)) }
+    ensures failed { OnErr result (Broke (O.taken out.old) (O.taken out.new) (O.faults out.old) (O.faults out.new) (lines_of (slots_of kernel.old.progress.state script.now.typed script.now.slots).items)) }
 {
     let mut rest = script.typed.as_slice();
     for slot in 0..script.slots {
@@ -94,7 +94,7 @@ fn play_kernel<O: Sink>(
     script: &Script,
     out: &mut O,
 ) -> Result<Summary, Failed>
-    requires begun { kernel.old ≡ begun (state_of image.now) }
+    requires begun { kernel.old.progress ≡ begun (state_of image.now) }
     requires script { IsScript image.now.lines image.now.turns script.now.typed script.now.slots }
     ensures totals { IfOk result (λ summary. summary ≡ summary_of image.now script.now.typed script.now.slots) }
     ensures written { OnOk result (Took (O.taken out.old) (O.taken out.new) (O.faults out.old) (O.faults out.new) (report_of image.now script.now.typed script.now.slots)) }
@@ -113,7 +113,7 @@ fn play_gathered<O: Sink, L: Start>(
     script: &Script,
     out: &mut Gathered<'_, O, L>,
 ) -> Result<Summary, Failed>
-    requires begun { kernel.old ≡ begun (state_of image.now) }
+    requires begun { kernel.old.progress ≡ begun (state_of image.now) }
     requires script { IsScript image.now.lines image.now.turns script.now.typed script.now.slots }
     requires fresh { out.old.history.given ++ out.old.waiting.put ≡ [] }
     ensures same_reference { out.new.out.ghost_name ≡ out.old.out.ghost_name }
@@ -133,7 +133,7 @@ fn play_in_pieces<O: Sink, L: Start>(
     script: &Script,
     out: &mut O,
 ) -> Result<Summary, Failed>
-    requires begun { kernel.old ≡ begun (state_of image.now) }
+    requires begun { kernel.old.progress ≡ begun (state_of image.now) }
     requires script { IsScript image.now.lines image.now.turns script.now.typed script.now.slots }
     requires start { L.told ≡ O.taken out.now }
     ensures totals { IfOk result (λ summary. summary ≡ summary_of image.now script.now.typed script.now.slots) }

@@ -30,10 +30,10 @@ loop-slot-init g c = record {
 pub loop-slot-preserved : goal.loop-slot-preserved
 loop-slot-preserved g c =
     let k : ℕ = c.loop-slot.slot in
-    let v : State = c.args.kernel.now.state in
+    let v : State = c.args.kernel.now.progress.state in
     let typed : List TypedAt = c.args.script.now.typed in
     let rest : List TypedAt = c.loop-slot.rest.now in
-    let kernel : Progress = c.loop-slot.kernel in
+    let kernel : Progress = c.loop-slot.kernel.progress in
     let a : Step = slots_of v typed k in
     let b : Step = slot_of k a.state (records_for k typed) in
     let part = parted k rest c.loop-slot.invariant.order c.loop-slot.invariant.from in
@@ -59,10 +59,10 @@ loop-slot-preserved g c =
 pub returns-in_err-slot-clause-failed : goal.returns-in_err-slot-clause-failed
 returns-in_err-slot-clause-failed g c =
     let k : ℕ = c.loop-slot.slot in
-    let v : State = c.args.kernel.now.state in
+    let v : State = c.args.kernel.now.progress.state in
     let typed : List TypedAt = c.args.script.now.typed in
     let rest : List TypedAt = c.loop-slot.rest.now in
-    let kernel : Progress = c.loop-slot.kernel in
+    let kernel : Progress = c.loop-slot.kernel.progress in
     let a : Step = slots_of v typed k in
     let b : Step = slot_of k a.state (records_for k typed) in
     let part = parted k rest c.loop-slot.invariant.order c.loop-slot.invariant.from in

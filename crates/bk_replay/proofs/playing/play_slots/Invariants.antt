@@ -10,11 +10,11 @@ use Rattle.bk_replay.proofs.playing.play_slots.Given as goal
 
 abbrev pub invariant-loop-slot : goal.invariant-loop-slot
 invariant-loop-slot g l = record {
-  progress : l.kernel ≡ after_slots l.fn.kernel.state l.script.typed l.slot;
-  state : l.kernel.state ≡ (slots_of l.fn.kernel.state l.script.typed l.slot).state;
-  slots : l.kernel.slots ≡ l.slot;
-  fresh : l.kernel.since ≡ 0;
-  took : Took (g.O.Sink.taken l.fn.out) (g.O.Sink.taken l.out) (g.O.Sink.faults l.fn.out) (g.O.Sink.faults l.out) (lines_of (slots_of l.fn.kernel.state l.script.typed l.slot).items);
+  progress : l.kernel.progress ≡ after_slots l.fn.kernel.progress.state l.script.typed l.slot;
+  state : l.kernel.progress.state ≡ (slots_of l.fn.kernel.progress.state l.script.typed l.slot).state;
+  slots : l.kernel.progress.slots ≡ l.slot;
+  fresh : l.kernel.progress.since ≡ 0;
+  took : Took (g.O.Sink.taken l.fn.out) (g.O.Sink.taken l.out) (g.O.Sink.faults l.fn.out) (g.O.Sink.faults l.out) (lines_of (slots_of l.fn.kernel.progress.state l.script.typed l.slot).items);
   order : IsInOrder l.rest;
   from : From l.slot l.rest;
   same : (j : ℕ) → l.slot ≤ j → records_for j l.rest ≡ records_for j l.script.typed;

@@ -11,9 +11,9 @@ pub invariant_of-self : goal.invariant_of-self
 invariant_of-self c =
     let t = c.self.inside in
     let s = c.args.subject in
-    let q = c.index-process.result.now in
+    let q = c.index-next.result.now in
     let below : s < length t.processes.items = omega (arith, c.requires, ap (λ (x : TablesState). length x.state.processes) c.self.view_is) in
-    let found : slice_get t.processes.items s ≡ Some q = item-there t.processes.items s q below c.index-process.ensures in
+    let found : slice_get t.processes.items s ≡ Some q = item-there t.processes.items s q below c.index-next.ensures in
     let (p, there, old) = loaded-there t.processes.items t.store t.machine t.loaded c.self.invariant.loaded in
     record {
       tables = c.self.invariant.tables;
