@@ -3,7 +3,8 @@
 use crate::Access;
 use bitflags::Flags;
 use bk_base::NoMemory;
-use bk_object::{Modes, Slot};
+use bk_object::{Modes, Row, Slot};
+use std::mem::size_of;
 
 // What is added is held until it is removed.
 #[test]
@@ -36,4 +37,10 @@ fn keeps_subjects_and_slots_apart(rt: HostRuntime) -> Result<(), NoMemory> {
     assert_eq!(rt; access.modes(1, far).bits(), 0);
     assert_eq!(rt; access.modes(1, near).bits(), 2);
     Ok(())
+}
+
+// Four bits for each of 32 subjects: 16 bytes a slot, 62,464 for 3,904 slots.
+#[test]
+fn takes_sixteen_bytes_a_slot(rt: HostRuntime) {
+    assert_eq!(rt; size_of::<Row>(), 16);
 }

@@ -264,7 +264,7 @@ impl Store {
         let _count = self.levels.len();
     }
 
-    /// A segment has so many blocks as its facts say, above the kernel's blocks, and apart from those of all other
+    /// A segment has so many blocks as its facts say, 1 to 128, above the kernel's blocks, and apart from those of all other
     /// segments; messages wait in mailboxes alone, and bytes on lines alone.
     pub fn law_contents(&self)
         ensures kinds { HaveKinds self.now }

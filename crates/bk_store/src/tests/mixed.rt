@@ -256,10 +256,10 @@ fn oldest_message(object: &Plain) -> Option<Message> {
     })
 }
 
-// With how many of 2,000 calls the model agrees, in the answer and in all objects after it, before it first does not.
+// With how many of 10,000 calls the model agrees, in the answer and in all objects after it, before it first does not.
 fn calls_that_agree(store: &mut Store, core: &mut Core, objects: &mut Vec<Plain>) -> u16 {
     let mut n = 1u32;
-    for number in 0..2_000u16 {
+    for number in 0..10_000u16 {
         n = n.wrapping_mul(1_664_525).wrapping_add(1_013_904_223);
         if step(store, core, objects, n / 4096, number) != Some(true)
             || all_agree(store, core, objects) != Some(true)
@@ -267,7 +267,7 @@ fn calls_that_agree(store: &mut Store, core: &mut Core, objects: &mut Vec<Plain>
             return number;
         }
     }
-    2_000
+    10_000
 }
 
 #[test]
@@ -279,6 +279,6 @@ fn agrees_with_a_plain_model(rt: HostRuntime) {
     objects.push(root).ok().expect(&rt, "memory");
     assert_eq!(rt;
         calls_that_agree(&mut store, &mut core, &mut objects),
-        2_000
+        10_000
     );
 }
