@@ -257,6 +257,17 @@ impl Store {
         }
     }
 
+    /// The first block of the segment at the path, its number of blocks, and the modes by which the subject holds it now: None
+    /// exactly where no segment is there.
+    pub fn shown(&self, subject: u8, path: Path) -> Option<(u32, u8, Modes)>
+        requires { subject < rows.most_subjects }
+        ensures { result ≡ option_map (λ e. (e.first, e.blocks, modes_held self.now subject path)) (extent_in self.now path) }
+    {
+        let slot = self.tree.find(path)?;
+        let (first, blocks) = self.frames.extent(slot)?;
+        Some((first, blocks, self.access.modes(subject, slot)))
+    }
+
     /// There are at most `MOST_LEVELS` levels.
     pub fn law_levels(&self)
         ensures { length self.now.levels ≤ most_levels }
