@@ -15,13 +15,20 @@ use Rattle.bk_system.specs.Space.{is_data, rights_by}
 use Rattle.bk_mmu.specs.ActivePages.{ActivePage, active_page, loaded, non_resident}
 use Rattle.bk_pages.specs.Pages.{page_over, rights_held}
 
--- the first block and the number of blocks of an extent
-abbrev pub pair_of : Extent → ℕ × ℕ
-pair_of e = (e.first, e.blocks)
+-- what the store answers of an extent that is held by these modes
+abbrev pub answer_of : Modes → Extent → ℕ × ℕ × Modes
+answer_of held e = (e.first, e.blocks, held)
 
-extent_is : (o : Option Extent) (first blocks : ℕ) → option_map pair_of o ≡ Some (first, blocks) → o ≡ Some (record { first = first; blocks = blocks })
-extent_is None first blocks h = cc
-extent_is (Some e) first blocks h = ap (λ (p : ℕ × ℕ). Some (record { first = p.0; blocks = p.1 })) (same_Some (e.first, e.blocks) (first, blocks) h)
+-- an extent and the modes by the answer
+record IsTold (o : Option Extent) (held : Modes) (first blocks : ℕ) (modes : Modes) : Type 0 where
+  extent : o ≡ Some (record { first = first; blocks = blocks })
+  same : modes ≡ held
+
+told : (o : Option Extent) (held modes : Modes) (first blocks : ℕ) → option_map (answer_of held) o ≡ Some (first, blocks, modes) → IsTold o held first blocks modes
+told None held modes first blocks h = cc
+told (Some e) held modes first blocks h =
+    let same = same_Some (e.first, e.blocks, held) (first, blocks, modes) h in
+    record { extent = ap (λ (t : ℕ × ℕ × Modes). Some (record { first = t.0; blocks = t.1 })) same; same = ap (λ (t : ℕ × ℕ × Modes). t.2) (sym same) }
 
 -- the rights by the modes that are held
 held-rights : (store : Stored) (s window : ℕ) (path : Path) (modes : Modes) → modes ≡ modes_held store s path → rights_by (is_data window) (has modes Read) (has modes Execute) (has modes Write) ≡ rights_held store s window path
@@ -30,10 +37,11 @@ held-rights store s window path modes is =
     ∙ (λ i. rights_by (is_data window) (has-modes_where (holds store s path) Read i) (has-modes_where (holds store s path) Execute i) (has-modes_where (holds store s path) Write i))
 
 -- the page over the extent that the store answers, with the rights by the modes that it answers
-pub page-set : (store : Stored) (s window : ℕ) (path : Path) (first blocks : ℕ) (modes : Modes) (r : Rights) → option_map pair_of (extent_in store path) ≡ Some (first, blocks) →
-    modes ≡ modes_held store s path → r ≡ rights_by (is_data window) (has modes Read) (has modes Execute) (has modes Write) → loaded first blocks r ≡ page_over (extent_in store path) (rights_held store s window path)
-page-set store s window path first blocks modes r stands held rights_are = λ i.
-    page_over (sym (extent_is (extent_in store path) first blocks stands) i) ((rights_are ∙ held-rights store s window path modes held) i)
+pub page-set : (store : Stored) (s window : ℕ) (path : Path) (first blocks : ℕ) (modes : Modes) (r : Rights) → option_map (answer_of (modes_held store s path)) (extent_in store path) ≡ Some (first, blocks, modes) →
+    r ≡ rights_by (is_data window) (has modes Read) (has modes Execute) (has modes Write) → loaded first blocks r ≡ page_over (extent_in store path) (rights_held store s window path)
+page-set store s window path first blocks modes r answer rights_are =
+    let is = told (extent_in store path) (modes_held store s path) modes first blocks answer in
+    λ i. page_over (sym is.extent i) ((rights_are ∙ held-rights store s window path modes is.same) i)
 
 -- no page is there
 pub none-there : (count n : ℕ) → active_page (replicate count non_resident) n ≡ non_resident

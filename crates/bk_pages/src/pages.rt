@@ -47,9 +47,8 @@ fn set_page(machine: &mut Machine, store: &Store, subject: u8, window: u8, shown
     let Some(path) = shown else {
         return;
     };
-    if let Some((first, size)) = store.extent(path) {
-        let rights = rights_by(window, store.held(subject, path));
-        machine.load_page(window, first as u16, size, rights);
+    if let Some((first, size, modes)) = store.shown(subject, path) {
+        machine.load_page(window, first as u16, size, rights_by(window, modes));
     }
 }
 
