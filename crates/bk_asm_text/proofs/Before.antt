@@ -28,11 +28,15 @@ unfolding before_at
 before_end at before = refl
 
 -- all statements where there is no fault, else the fault
+abbrev pub whole_with : List PlainStatement → Option AsmFault → Result (List PlainStatement) AsmFault
+whole_with statements None = Ok statements
+whole_with statements (Some fault) = Err fault
+
 abbrev pub whole : Before → Result (List PlainStatement) AsmFault
-whole before = by before.fault where
-  by : Option AsmFault → Result (List PlainStatement) AsmFault
-  by None = Ok before.statements
-  by (Some fault) = Err fault
+whole before = whole_with before.statements before.fault
+
+pub whole_none : (before : Before) → before.fault ≡ None → whole before ≡ Ok before.statements
+whole_none before none = ap (whole_with before.statements) none
 
 whole_at : (at : ℕ) (before : List PlainStatement) (lines : List (List ℕ)) → statements_at at before lines ≡ whole (before_at at before lines)
 unfolding statements_at before_at

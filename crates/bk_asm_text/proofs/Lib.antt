@@ -7,5 +7,5 @@ pub mod Shorter
 pub mod Loops
 pub mod Lines
 pub mod Statements
-mod Before
+pub mod Before
 pub mod First

@@ -1,0 +1,11 @@
+mod Words
+mod Tables
+mod Loops
+mod Settling
+mod Coding
+mod Sizes
+mod Whole
+mod Growing
+mod Lawful
+mod Laws
+mod Lengths

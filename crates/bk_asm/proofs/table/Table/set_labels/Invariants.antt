@@ -1,0 +1,10 @@
+use Rattle.std.proofs.Common.{◌≡◌, ◌||◌, drop}
+use Rattle.bk_asm.specs.Names.{repeats, with_labels}
+use Rattle.bk_asm.specs.Seen.{seen}
+use Rattle.bk_asm.proofs.table.Table.set_labels.Given as goal
+
+abbrev pub invariant-loop-label : goal.invariant-loop-label
+invariant-loop-label l = record {
+  same : with_labels l.range l.value (seen l.self) (drop l.label-index l.labels) ≡ with_labels l.range l.value (seen l.fn.self) l.labels;
+  again : (l.again || repeats l.range l.value (seen l.self) (drop l.label-index l.labels)) ≡ repeats l.range l.value (seen l.fn.self) l.labels;
+}

@@ -1,0 +1,10 @@
+pub mod Pieces
+pub mod Names
+pub mod Places
+pub mod Faults
+pub mod Codes
+pub mod Assembled
+pub mod Listing
+pub mod Law
+pub mod Example
+pub mod Seen
