@@ -1,10 +1,13 @@
-ghost use Rattle.std.specs.Prelude.{◌≡◌, ◌<◌, ◌^◌, IfOk, OnErr, OnOk};
+ghost use Rattle.std.specs.Prelude.{◌≡◌, ◌<◌, ◌^◌, IfOk, OnErr, OnOk, pos};
 ghost use Rattle.bk_space.specs.AddrSpace.{applied};
 ghost use Rattle.bk_space.specs.Widths.{bits_of};
+ghost use Rattle.bk_space.specs.Registers.{moved, reg, with_reg};
 ghost use Rattle.bk_space.specs.Counts.{counted_on};
 ghost use Rattle.bk_space.specs.Trail.{Trail};
 ghost use Rattle.bk_space.specs.Undo.{undone, HasRoom, IsFresh, HasMoved};
 ghost use Rattle.bk_space.specs.declared.registers.Regs.{Regs as Registers};
+ghost use Rattle.bk_space.specs.declared.reference.Space.TheVariants.{D, I};
+ghost use Rattle.bk_operand.specs.declared.place.Place.TheVariants.{Mem};
 ghost use Rattle.bk_operand.specs.Part.{Follows, next_word};
 ghost use Rattle.bk_operand.specs.Operand.{own_space, step_up, step_down, pointed, indexed, indexed_deferred, located, IsPlace, fetched, write_of, stored};
 
@@ -156,6 +159,33 @@ fn locate_there<B: Bus>(
     }
 }
 
+// The program counter, which moves by 2. It needs no note, since its value before the instruction is kept.
+#[inline(always)]
+#[tactic(auto, using(bk_space::proofs::UndoneLemmas::undone_lemmas), unfolding(bk_space::specs::Registers::reg, bk_space::specs::Registers::with_reg, bk_space::specs::Registers::moved))]
+fn step_pc(regs: &mut Regs) -> u16
+    ensures value { result ≡ reg regs.old 7 }
+    ensures regs { regs.new ≡ moved regs.old 7 (pos 2) }
+    ensures undone { (trail : Trail) → undone trail regs.new ≡ undone trail regs.old }
+    ensures alone { (trail : Trail) (before : Registers) → HasMoved trail before regs.old → HasMoved trail before regs.new }
+{
+    let addr = regs.pc;
+    regs.pc = addr.wrapping_add(2);
+    addr
+}
+
+// The pointer at the program counter, which moves by 2.
+#[tactic(auto, unfolding(crate::specs::Operand::pointed, crate::specs::Part::reading))]
+fn next_pointer<B: Bus>(regs: &mut Regs, bus: &mut B) -> Result<u16, Abort>
+    ensures place { Follows (λ addr. Mem D addr) result regs.new (pointed (B.shown (B.state bus.old)) I (reg regs.old 7) (moved regs.old 7 (pos 2))) }
+    ensures count { B.references bus.new ≡ counted_on (B.references bus.old) (pointed (B.shown (B.state bus.old)) I (reg regs.old 7) (moved regs.old 7 (pos 2))).made }
+    ensures state { B.state bus.new ≡ B.state bus.old }
+    ensures undone { (trail : Trail) → undone trail regs.new ≡ undone trail regs.old }
+    ensures alone { (trail : Trail) (before : Registers) → HasMoved trail before regs.old → HasMoved trail before regs.new }
+{
+    let addr = step_pc(regs);
+    Ok(bus.read_word(regs.ps.mode, Space::I, addr)?)
+}
+
 /// Finds the place of an operand: index words and pointers are read, and a register that moves is
 /// noted. An abort is the bus's own.
 #[inline(always)]
@@ -180,10 +210,48 @@ pub fn locate<B: Bus>(
     ensures undone { undone undo.new regs.new ≡ undone undo.old regs.old }
     ensures alone { (before : Registers) → HasMoved undo.old before regs.old → HasMoved undo.new before regs.new }
 {
-    if field.mode == 0 {
-        Ok(Place::Reg(field.reg))
+    match (field.mode, field.reg) {
+        (0, r) => Ok(Place::Reg(r)),
+        (2, 7) => Ok(Place::Mem {
+            space: Space::I,
+            addr: step_pc(regs),
+        }),
+        (3, 7) => {
+            let addr = next_pointer(regs, bus)?;
+            Ok(Place::Mem {
+                space: Space::D,
+                addr,
+            })
+        }
+        _ => locate_there(regs, undo, bus, field, width),
+    }
+}
+
+// A register's value: R0 to R5 are asked first.
+#[inline(always)]
+#[tactic(auto, unfolding(bk_space::specs::Registers::reg))]
+fn value_in(regs: &Regs, r: u8) -> u16
+    requires { r < 8 }
+    ensures { result ≡ reg regs.now r }
+{
+    if r < 6 {
+        regs.general[usize::from(r)]
     } else {
-        locate_there(regs, undo, bus, field, width)
+        regs.reg(r)
+    }
+}
+
+// Replaces a register's value: R0 to R5 are asked first.
+#[inline(always)]
+#[tactic(auto, unfolding(bk_space::specs::Registers::with_reg))]
+fn put_in(regs: &mut Regs, r: u8, value: u16)
+    requires { r < 8 }
+    ensures { regs.new ≡ with_reg regs.old r value }
+{
+    if r < 6 {
+        regs.general[usize::from(r)] = value;
+    } else {
+        regs.set_reg(r, value);
     }
 }
 
@@ -199,8 +267,8 @@ pub fn fetch<B: Bus>(regs: &Regs, bus: &mut B, place: Place, width: Width) -> Re
 {
     match place {
         Place::Reg(r) => match width {
-            Width::Word => Ok(regs.reg(r)),
-            Width::Byte => Ok(regs.reg(r) % 256),
+            Width::Word => Ok(value_in(regs, r)),
+            Width::Byte => Ok(value_in(regs, r) % 256),
         },
         Place::Mem { space, addr } => match width {
             Width::Word => Ok(bus.read_word(regs.ps.mode, space, addr)?),
@@ -232,9 +300,9 @@ pub fn store<B: Bus>(
         Place::Reg(r) => {
             let word = match width {
                 Width::Word => value,
-                Width::Byte => regs.reg(r) / 256 * 256 + value,
+                Width::Byte => value_in(regs, r) / 256 * 256 + value,
             };
-            regs.set_reg(r, word);
+            put_in(regs, r, word);
             Ok(())
         }
         Place::Mem { space, addr } => match width {
