@@ -54,5 +54,7 @@ pub record IsSettled (first n : ℕ) (places : List (Option Placed)) (owners : L
   pub table : IsTable first places owners
   pub full : IsFull owners n
   pub free : (b : ℕ) → n ≤ b → b < length owners → slice_get owners b ≡ Some None
-  pub same : (slot : ℕ) → finite.find nat_cmp slot (entries_of all) ≡ or_else (option_map extent_at (place_of places slot)) (finite.find nat_cmp slot (entries_of rest))
-  pub later : (slot : ℕ) (e : Extent) → finite.find nat_cmp slot (entries_of rest) ≡ Some e → (slot < length places) × (e.blocks ≤ most_blocks) × (place_of places slot ≡ None)
+  pub same : (slot : ℕ) → finite.find nat_cmp slot (entries_of all) ≡
+      or_else (option_map extent_at (place_of places slot)) (finite.find nat_cmp slot (entries_of rest))
+  pub later : (slot : ℕ) (e : Extent) → finite.find nat_cmp slot (entries_of rest) ≡ Some e →
+      (slot < length places) × (e.blocks ≤ most_blocks) × (place_of places slot ≡ None)

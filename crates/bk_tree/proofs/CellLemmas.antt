@@ -1,25 +1,25 @@
 -- The counters are the used numbers: at first, once a charge is taken, once it is given back, and under another row.
-use Rattle.std.proofs.Common.{◌≡◌, ◌≢◌, ℕ, zero, suc, ◌+◌, ◌-◌, ◌<◌, ◌≤◌, Bool, true, false, cond, not, List, [], ◌∷◌, length, replicate, set, Option, Some, None, refl, sym, ap, ◌∙◌, subst, arith}
+use Rattle.std.proofs.Common.{◌≡◌, ◌≢◌, ℕ, zero, suc, ◌+◌, ◌-◌, ◌<◌, ◌≤◌, Bool, true, false, cond, List, [], ◌∷◌, length, replicate, set, Some, None, refl, sym, ap, ◌∙◌, arith}
 use Rattle.std.proofs.Common.{length-set}
 use Rattle.std.specs.Prelude.{slice_get, if◌then◌else◌}
 use Rattle.std.specs.Ordering.{eq_by_cmp}
-use Rattle.std.specs.FinMap.{get, insert, get-insert, get-from_entries, same_map}
+use Rattle.std.specs.FinMap.{get, insert, get-insert, get-from_entries}
 use Rattle.std.proofs.lemmas.Option.{same_Some, slice_get_within}
 use Rattle.bk_object.specs.declared.Facts.{Facts}
 use Rattle.bk_path.specs.Paths.{Path, path_cmp, is_same}
-use Rattle.bk_path.specs.Orders.{path_total, path_apart, same_path, is_same-itself, ties-same}
+use Rattle.bk_path.specs.Orders.{path_total, same_path, is_same-itself}
 use Rattle.bk_quota.specs.Charges.{charge_of, governing_in, level_in, quota_in, used_in}
 use Rattle.bk_quota.specs.Usage.{Usage}
 use Rattle.bk_tree.specs.declared.place.Placed.{Placed}
-use Rattle.bk_tree.specs.Objects.{Objects, HasNoChild, begun, facts_of, without}
+use Rattle.bk_tree.specs.Objects.{Objects, begun, facts_of}
 use Rattle.bk_tree.specs.Kept.{cell_in, has_cell, HasDirectory, IsClosed, IsKept}
 use Rattle.bk_tree.specs.Whole.{IsCounted}
 use Rattle.bk_tree.proofs.Found.{tied_path, tied-itself}
 use Rattle.bk_tree.proofs.Smaller.{bare, governing-same, has_cell-same, level-same, quota_at, used-le}
-use Rattle.bk_tree.proofs.Added.{added, apart_paths, governing_there, new_share, smaller, used-added, used_free}
-use Rattle.bk_tree.proofs.Keeping.{alone, bigger, get_without, kept-row, kept-without, row-closed, used_alone, smaller as row-smaller}
+use Rattle.bk_tree.proofs.Added.{apart_paths, new_share, smaller, used-added, used_free}
+use Rattle.bk_tree.proofs.Keeping.{alone, bigger, row-closed, used_alone, smaller as row-smaller}
 use Rattle.bk_tree.proofs.Room.{governing-has_cell}
-use Rattle.bk_tree.proofs.Changed.{same_or_not, set-same, set-other}
+use Rattle.bk_tree.proofs.Changed.{set-same, set-other}
 
 -- a cell with this limit, of which so much is used
 abbrev pub usage : (limit used : ℕ) → Usage

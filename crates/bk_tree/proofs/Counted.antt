@@ -1,22 +1,17 @@
 -- The objects are counted over the places, and no cell that governs is overdrawn.
-use Rattle.std.proofs.Common.{◌≡◌, ◌≢◌, ℕ, suc, ◌+◌, ◌<◌, ◌≤◌, Bool, true, false, List, [], ◌∷◌, length, Option, Some, None, refl, sym, ap, ◌∙◌, arith}
-use Rattle.std.specs.Prelude.{sum_by, IsSome, IsTrue, ◌↔◌, not, ◌&&◌, ◌==◌}
+use Rattle.std.proofs.Common.{◌≡◌, ℕ, suc, ◌≤◌, List, [], ◌∷◌, length, Option, Some, None, refl, arith}
+use Rattle.std.specs.Prelude.{IsSome}
 use Rattle.bk_base.specs.Maps.{IsDistinct}
 use Rattle.bk_base.proofs.Totals.{total_of}
-use Rattle.bk_base.proofs.Distinct.{total_of-from_entries}
-use Rattle.bk_quota.specs.Usage.{Usage, charged}
-use Rattle.bk_object.specs.Kinds.{is_directory}
 use Rattle.std.specs.FinMap.{find, get}
 use Rattle.std.proofs.lemmas.List.Sums.{sum_by-cons}
-use Rattle.bk_object.specs.declared.Facts.{Facts}
-use Rattle.bk_path.specs.Paths.{Path, parent, path_cmp}
-use Rattle.bk_path.specs.Orders.{path_total, path_apart}
-use Rattle.bk_quota.specs.Charges.{facts_in, is_upgraded_in, passes, share_in, used_in, governing_in, quota_in}
+use Rattle.bk_path.specs.Paths.{Path, path_cmp}
+use Rattle.bk_quota.specs.Charges.{used_in, governing_in, quota_in}
 use Rattle.bk_tree.specs.declared.place.Placed.{Placed}
 use Rattle.bk_tree.specs.declared.place.Object.{Object}
 use Rattle.bk_tree.specs.Objects.{Objects, facts_of}
-use Rattle.bk_tree.specs.Kept.{IsKept, cell_in}
-use Rattle.bk_tree.specs.Places.{entries_from, tree_of, IsApart, IsFull}
+use Rattle.bk_tree.specs.Kept.{IsKept}
+use Rattle.bk_tree.specs.Places.{entries_from, IsApart, IsFull}
 use Rattle.bk_tree.proofs.Found.{found-at}
 use Rattle.bk_tree.proofs.Smaller.{quota_at}
 use Rattle.bk_tree.proofs.Added.{governing_there}

@@ -1,7 +1,7 @@
 -- A free place takes one object more, and where its charge fits a place is free.
 use Rattle.std.proofs.Common.{◌≡◌, ◌≢◌, ◌⊎◌, inl, inr, ℕ, ◌<◌, ◌≤◌, Bool, true, false, cond, not, ◌&&◌, ◌==◌, List, [], ◌∷◌, length, Option}
 use Rattle.std.proofs.Common.{Some, None, refl, sym, ap, ◌∙◌, subst, arith, set, length-set}
-use Rattle.std.specs.Prelude.{slice_get, if◌then◌else◌, IsNone, IsSome, IsTrue, IfNone, IfSome, is_some, ◌↔◌}
+use Rattle.std.specs.Prelude.{slice_get, if◌then◌else◌, IsNone, IsSome, IsTrue, IfNone, is_some, ◌↔◌}
 use Rattle.std.specs.Ordering.{eq_by_cmp}
 use Rattle.std.specs.FinMap.{get, insert, entries, get-insert, same_map, len-entries}
 use Rattle.std.proofs.lemmas.Option.{slice_get_within}
@@ -9,7 +9,6 @@ use Rattle.std.proofs.lemmas.Bool.Decides.{nat_tests}
 use Rattle.bk_base.proofs.Totals.{total-insert}
 use Rattle.bk_base.proofs.Distinct.{total_of-from_entries}
 use Rattle.bk_object.specs.declared.Facts.{Facts}
-use Rattle.bk_object.specs.declared.Slot.{Slot}
 use Rattle.bk_object.specs.declared.Kind.{Kind}
 use Rattle.bk_object.specs.declared.Kind.TheVariants.{Directory, Segment, Mailbox, Line}
 use Rattle.bk_object.specs.Kinds.{is_directory}

@@ -1,9 +1,9 @@
 -- The list of paths against the map, before and after an object comes or goes; and the last inferior of a path.
-use Rattle.std.proofs.Common.{◌≡◌, ◌≢◌, ℕ, zero, suc, ◌+◌, ◌<◌, ◌≤◌, Bool, true, false, cond, not, ◌||◌, List, [], ◌∷◌, ◌++◌, length, Option, Some, None, refl, sym, ap, ◌∙◌, subst, arith}
+use Rattle.std.proofs.Common.{◌≡◌, ◌≢◌, ℕ, ◌<◌, ◌≤◌, Bool, true, false, cond, not, List, [], ◌∷◌, Option, Some, None, refl, sym, ap, ◌∙◌, subst, arith}
 use Rattle.std.specs.Prelude.{option_map, IsNone, IsTrue, IfNone, IfSome, ◌↔◌}
 use Rattle.std.specs.List.{insert as put_in, remove as taken_out}
 use Rattle.std.specs.Ordering.{nat_cmp, eq_by_cmp}
-use Rattle.std.specs.FinMap.{empty, get-empty, get, insert, find, from_entries, get-insert, get-from_entries, get-retain_keys, same_map}
+use Rattle.std.specs.FinMap.{empty, get-empty, get, insert, find, get-insert, get-from_entries, get-retain_keys, same_map}
 use Rattle.std.proofs.lemmas.Bool.{or_right}
 use Rattle.std.proofs.lemmas.Option.{same_Some}
 use Rattle.bk_object.specs.declared.Facts.{Facts}
@@ -13,9 +13,9 @@ use Rattle.bk_path.specs.Orders.{path_total, path_apart, same_path, is_same-itse
 use Rattle.bk_path.proofs.PathLemmas.{is_inferior-append}
 use Rattle.bk_tree.specs.declared.place.Placed.{Placed}
 use Rattle.bk_tree.specs.declared.order.Entry.{Entry}
-use Rattle.bk_tree.specs.Objects.{Objects, HasNone, IsAt, IsLeafOf, begun, slot_of, without}
+use Rattle.bk_tree.specs.Objects.{Objects, HasNone, IsLeafOf, begun, slot_of, without}
 use Rattle.bk_tree.specs.Keys.{key_of, past_of}
-use Rattle.bk_tree.specs.Order.{keyed, rank, HasKey, IsLastOf, IsNoneOf}
+use Rattle.bk_tree.specs.Order.{keyed, rank, IsLastOf, IsNoneOf}
 use Rattle.bk_tree.specs.Whole.{Finds, IsEntered, IsIndex, IsOfObject}
 use Rattle.bk_tree.proofs.Found.{tied_path, tied-itself}
 use Rattle.bk_tree.proofs.KeyLemmas.{child_above, inferior_within, same_key, within_inferior}

@@ -22,12 +22,12 @@ use Rattle.bk_tree.specs.Kept.{cell_in, Fits, HasDirectory, IsFit, IsKept}
 use Rattle.bk_tree.specs.Keys.{key_of}
 use Rattle.std.specs.Ordering.{nat_cmp}
 use Rattle.bk_tree.specs.Order.{keyed, rank}
-use Rattle.bk_tree.specs.Places.{tree_of, IsTree}
+use Rattle.bk_tree.specs.Places.{tree_of}
 use Rattle.bk_tree.specs.Whole.{Finds, IsCounted, IsIndex, IsVacant, IsWhole}
-use Rattle.bk_tree.proofs.Found.{is_there, stands, tied_path, tied-itself}
+use Rattle.bk_tree.proofs.Found.{is_there, stands}
 use Rattle.bk_tree.proofs.Added.{governing_there}
 use Rattle.bk_tree.proofs.Keeping.{get_without, kept-without}
-use Rattle.bk_tree.proofs.Changed.{begun-places, begun-tree, held, held_path, leaf-map, leaf-tree, row-map, row-tree, set-same, set-other}
+use Rattle.bk_tree.proofs.Changed.{begun-places, begun-tree, held, held_path, leaf-map, leaf-tree, row-map, row-tree}
 use Rattle.bk_tree.proofs.Created.{created_free, created_map, created_tree}
 use Rattle.bk_tree.proofs.CellLemmas.{usage, AreSlotsApart, counted-begun, counted-less, counted-more, counted-row, payer_cell, same_charge, same_gov, used_gov, old_more}
 use Rattle.bk_tree.proofs.Indexed.{finds, index-begun, index-insert, index-remove, index-row}

@@ -1,16 +1,13 @@
 -- A list of places as the map from paths to slots and facts.
-use Rattle.std.specs.Prelude.{◌≡◌, ◌≢◌, ℕ, suc, ◌+◌, ◌≤◌, Bool, true, false, List, [], ◌∷◌, length, Option, Some, None, slice_get, ◌<◌}
-use Rattle.std.specs.Prelude.{unwrap_or, option_map, if◌then◌else◌}
+use Rattle.std.specs.Prelude.{◌≡◌, ◌≢◌, ℕ, suc, ◌≤◌, true, List, [], ◌∷◌, length, Option, Some, None, slice_get, ◌<◌}
 use Rattle.std.specs.FinMap as map
-use Rattle.std.specs.Ordering.{eq_by_cmp}
 use Rattle.bk_object.specs.declared.Facts.{Facts}
 use Rattle.bk_object.specs.Kinds.{is_directory}
 use Rattle.bk_object.specs.Limits.{largest_quota}
-use Rattle.bk_path.specs.Paths.{Path, path_cmp, is_inferior}
+use Rattle.bk_path.specs.Paths.{Path}
 use Rattle.bk_tree.specs.declared.place.Placed.{Placed}
 use Rattle.bk_tree.specs.declared.place.Object.{Object}
-use Rattle.bk_quota.specs.Charges.{share_in}
-use Rattle.bk_tree.specs.Objects.{Objects, facts_of}
+use Rattle.bk_tree.specs.Objects.{Objects}
 use Rattle.bk_tree.specs.Kept.{IsKept}
 
 -- what the places hold, the first of them having that number

@@ -1,10 +1,7 @@
-use Rattle.std.proofs.Common.{◌≡◌, ◌∙◌, ap, sym, Option, Some, ℕ}
-use Rattle.std.specs.FinMap.{get}
+use Rattle.std.proofs.Common.{◌≡◌, ◌∙◌, ap, sym, Some}
 use Rattle.std.proofs.lemmas.Option.{same_Some}
-use Rattle.bk_tree.specs.declared.place.Placed.{Placed}
 use Rattle.bk_tree.specs.declared.place.Object.{Object}
 use Rattle.bk_tree.specs.Objects.{facts_of}
-use Rattle.bk_tree.specs.Places.{tree_of}
 use Rattle.std.specs.Prelude.{option_map}
 use Rattle.bk_tree.proofs.Found.{stands}
 use Rattle.bk_tree.proofs.Indexed.{found_there}

@@ -1,4 +1,4 @@
-use Rattle.std.proofs.Common.{◌≡◌, ◌∙◌, ap, sym, subst, Option, Some, None, ℕ, refl}
+use Rattle.std.proofs.Common.{◌≡◌, ◌∙◌, ap, sym, Option, Some, None, ℕ, refl}
 use Rattle.std.specs.Prelude.{IsSome, option_map}
 use Rattle.std.specs.FinMap.{get}
 use Rattle.std.proofs.lemmas.Option.{same_Some}
@@ -8,7 +8,6 @@ use Rattle.bk_path.specs.Paths.{Path}
 use Rattle.bk_tree.specs.declared.place.Placed.{Placed}
 use Rattle.bk_tree.specs.Objects.{Objects, facts_of}
 use Rattle.bk_tree.specs.Kept.{IsKept}
-use Rattle.bk_tree.specs.Keys.{key_of}
 use Rattle.bk_tree.specs.Places.{tree_of}
 use Rattle.bk_tree.proofs.Added.{governing_there}
 use Rattle.bk_tree.proofs.cells.payer.Goals as goal

@@ -1,9 +1,6 @@
-use Rattle.std.proofs.Common.{◌≡◌, ◌∙◌, ◌+◌, ◌-◌, ◌<◌, ◌≤◌, ℕ, get_or, Option, None, Some, ap, sym, subst, arith}
-use Rattle.std.specs.Prelude.{IfNone, IfSome}
+use Rattle.std.proofs.Common.{◌≡◌, ◌∙◌, ◌-◌, ◌≤◌, get_or, ap, sym, subst, arith}
 use Rattle.std.proofs.lemmas.Option.{IfSome_then}
-use Rattle.bk_object.specs.declared.Slot.{Slot}
 use Rattle.bk_tree.specs.declared.order.Entry.{Entry}
-use Rattle.bk_tree.specs.Keys.{key_of}
 use Rattle.bk_tree.specs.Order.{rank, IsLastOf}
 use Rattle.bk_tree.proofs.Indexed.{none_then}
 use Rattle.bk_tree.proofs.OrderLemmas.{last_none, last_some, none_behind, rising_from}

@@ -1,4 +1,4 @@
-use Rattle.std.proofs.Common.{◌≡◌, ◌∙◌, ap, sym, subst, arith}
+use Rattle.std.proofs.Common.{◌∙◌, ap, arith}
 use Rattle.bk_tree.specs.Order.{rank}
 use Rattle.bk_tree.proofs.OrderLemmas.{leaving, rising_from}
 use Rattle.bk_tree.proofs.order.leave.Goals as goal

@@ -1,4 +1,4 @@
-use Rattle.std.proofs.Common.{◌≡◌, ◌+◌, ◌-◌, ◌*◌, ◌/◌, ◌%◌, ◌^◌, ◌∙◌, ◌≤◌, sym, arith}
+use Rattle.std.proofs.Common.{arith}
 use Rattle.bk_tree.proofs.KeyLemmas.{past_is, past_small}
 use Rattle.bk_tree.proofs.order.past_of.Goals as goal
 

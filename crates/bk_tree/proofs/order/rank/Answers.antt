@@ -1,8 +1,7 @@
-use Rattle.std.proofs.Common.{◌≡◌, ◌<◌, ◌≤◌, Bool, true, false, nat_lt, length, sym, ap, subst, ◌∙◌, arith, rules}
+use Rattle.std.proofs.Common.{◌≡◌, ◌≤◌, true, false, nat_lt, length, sym, subst, rules}
 use Rattle.std.specs.List.Sorted.{IsNonDecreasingBy, IsPartitionPoint}
 use Rattle.std.proofs.lemmas.List.Sorted.{IsPartitionPoint-from_clause, IsPartitionedBy-ltb}
 use Rattle.bk_tree.specs.declared.order.Entry.{Entry}
-use Rattle.bk_tree.specs.Order.{rank}
 use Rattle.bk_tree.proofs.OrderLemmas.{rank-point, rises, rising_from}
 use Rattle.bk_tree.proofs.order.rank.Goals as goal
 

@@ -1,8 +1,8 @@
-use Rattle.std.proofs.Common.{◌≡◌, ◌∙◌, ap, sym}
+use Rattle.std.proofs.Common.{◌∙◌, ap, sym}
 use Rattle.std.specs.Ordering.{nat_cmp}
 use Rattle.std.specs.FinMap.{find}
 use Rattle.std.specs.Prelude.{slice_get}
-use Rattle.bk_tree.specs.Order.{keyed, rank, slot_if}
+use Rattle.bk_tree.specs.Order.{keyed, slot_if}
 use Rattle.bk_tree.proofs.OrderLemmas.{found-rank, rising_from}
 use Rattle.bk_tree.proofs.order.slot_at.Goals as goal
 

@@ -1,4 +1,4 @@
-use Rattle.std.proofs.Common.{◌≡◌, ◌∙◌, ◌+◌, ◌-◌, ◌≤◌, ◌++◌, ◌∷◌, [], ℕ, suc, List, length, length-append, append_assoc, refl, sym, ap, subst, arith}
+use Rattle.std.proofs.Common.{◌≡◌, ◌∙◌, ◌+◌, ◌-◌, ◌≤◌, ◌++◌, ◌∷◌, [], ℕ, suc, List, length, length-append, append_assoc, refl, sym, ap, arith}
 use Rattle.bk_tree.specs.Down.{down_to_1}
 use Rattle.bk_tree.proofs.Vacant.{down_length}
 use Rattle.bk_tree.proofs.tree.all_but_first.Goals as goal

@@ -1,4 +1,4 @@
-use Rattle.std.proofs.Common.{◌≡◌, ◌∙◌, sym, ap, refl, Some}
+use Rattle.std.proofs.Common.{◌∙◌, sym, refl}
 use Rattle.std.proofs.lemmas.Option.{same_Some}
 use Rattle.bk_quota.specs.Charges.{governing_in}
 use Rattle.bk_tree.specs.Kept.{cell_in}

@@ -1,5 +1,5 @@
-use Rattle.std.proofs.Common.{◌≡◌, ◌∙◌, ◌++◌, ◌<◌, ◌≤◌, sym, ap, refl, subst, arith, length, length-set, set, Some, false}
-use Rattle.std.specs.Prelude.{IsNone, IsSome}
+use Rattle.std.proofs.Common.{◌≡◌, ◌∙◌, ◌++◌, sym, ap, refl, subst, arith, length, length-set, set, Some}
+use Rattle.std.specs.Prelude.{IsNone}
 use Rattle.std.specs.Option.{option_to_list}
 use Rattle.std.specs.Vec.{vec_capacity}
 use Rattle.std.specs.FinMap.{get, insert}

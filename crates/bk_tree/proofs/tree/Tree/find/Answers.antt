@@ -1,4 +1,4 @@
-use Rattle.std.proofs.Common.{◌≡◌, ◌∙◌, sym, ap, subst, Option}
+use Rattle.std.proofs.Common.{◌∙◌, sym, ap, subst, Option}
 use Rattle.std.specs.Prelude.{option_map, IfSome, IsNone, ◌↔◌}
 use Rattle.std.specs.FinMap as map
 use Rattle.bk_object.specs.declared.Slot.{Slot}

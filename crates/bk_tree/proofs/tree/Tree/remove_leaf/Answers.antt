@@ -1,4 +1,4 @@
-use Rattle.std.proofs.Common.{◌≡◌, ◌∙◌, sym, ap, refl, subst, arith, Some}
+use Rattle.std.proofs.Common.{◌≡◌, ◌∙◌, sym, ap, subst, arith, Some}
 use Rattle.std.specs.Prelude.{IsSome}
 use Rattle.std.specs.FinMap.{get}
 use Rattle.std.proofs.lemmas.Option.{slice_get_within}
@@ -8,9 +8,9 @@ use Rattle.bk_tree.specs.declared.place.Placed.{Placed}
 use Rattle.bk_tree.specs.Objects.{facts_of, CanGo}
 use Rattle.bk_tree.specs.Kept.{cell_in}
 use Rattle.bk_tree.specs.Places.{tree_of}
-use Rattle.bk_tree.proofs.Changed.{leaf-map, leaf_within}
+use Rattle.bk_tree.proofs.Changed.{leaf-map}
 use Rattle.bk_tree.proofs.Found.{stands}
-use Rattle.bk_tree.proofs.Kept.{covered, finding, leaf_here, leaf_listed, parent_some, paying, whole_less}
+use Rattle.bk_tree.proofs.Kept.{covered, finding, leaf_here, leaf_listed, parent_some, paying, room_push, whole_less}
 use Rattle.bk_tree.proofs.tree.Tree.remove_leaf.Goals as goal
 
 pub object_at-object-requires : goal.object_at-object-requires
@@ -47,3 +47,6 @@ invariant_of-self c = whole_less c.self.inside.places.items c.self.inside.cells.
 
 pub returns : goal.returns
 returns c = leaf-map c.self.inside.places.items c.put.new.places.items c.self.invariant.tree c.args.self.now c.self.view_is c.args.slot.n c.requires c.put.ensures
+
+pub push_free-requires : goal.push_free-requires
+push_free-requires c = room_push c.self.inside.places.items c.self.inside.cells.items c.self.inside.order.items c.self.inside.free.items _ _ c.self.invariant c.args.slot.n (leaf_here c.self.inside.places.items c.self.inside.cells.items c.self.inside.order.items c.self.inside.free.items _ _ c.self.invariant c.args.slot.n (subst (λ m. CanGo m c.args.slot.n) (sym c.self.view_is) c.requires) c.object_at-object.result c.object_at-object.ensures)

@@ -1,10 +1,9 @@
-use Rattle.std.proofs.Common.{◌≡◌, ◌∙◌, ◌-◌, ◌≤◌, ap, sym, subst, refl, arith, rules, replicate, set, Some, None}
+use Rattle.std.proofs.Common.{◌∙◌, ap, arith, rules, replicate, set, Some}
 use Rattle.std.specs.List.{insert}
 use Rattle.bk_tree.specs.Places.{tree_of}
 use Rattle.bk_tree.specs.Keys.{key_of}
 use Rattle.bk_tree.specs.Order.{rank}
 use Rattle.bk_tree.proofs.Changed.{begun-places}
-use Rattle.bk_tree.proofs.CellLemmas.{usage}
 use Rattle.bk_tree.proofs.Kept.{begun_whole}
 use Rattle.bk_tree.proofs.tree.Tree.reserve.Goals as goal
 
