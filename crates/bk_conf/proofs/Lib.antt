@@ -1,0 +1,10 @@
+pub mod Texts
+pub mod Passing
+pub mod Zeros
+pub mod Fields
+pub mod Words
+pub mod Bodies
+pub mod Images
+pub mod Reached
+pub mod Granted
+pub mod Programs

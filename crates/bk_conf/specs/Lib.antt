@@ -1,0 +1,10 @@
+pub mod Limits
+pub mod Fault
+pub mod Lines
+pub mod Fields
+pub mod Kinds
+pub mod Said
+pub mod Steps
+pub mod Views
+pub mod Ordered
+pub mod Built
