@@ -21,10 +21,12 @@ use Rattle.blpk.specs.declared.status.Status.TheVariants as status
 refusal_not_ok : (r : Refusal) → status_of r ≡ status.Ok → ⊥
 refusal_not_ok (refusal.Image fault) bad = cc
 refusal_not_ok (refusal.Script fault) bad = cc
+refusal_not_ok (refusal.Build fault) bad = cc
 
 refusal_not_write : (r : Refusal) → status_of r ≡ status.WriteFault → ⊥
 refusal_not_write (refusal.Image fault) bad = cc
 refusal_not_write (refusal.Script fault) bad = cc
+refusal_not_write (refusal.Build fault) bad = cc
 
 module _ (words : List (List ℕ)) (before after : SourceState) (unread kept : Type 0) (took broke : List ℕ → Type 0) (quiet : Type 0) (said begun : List ℕ → Type 0) where
   abbrev Did : Outcome → Type 0
@@ -70,6 +72,7 @@ module _ (words : List (List ℕ)) (before after : SourceState) (unread kept : T
   row_of : (command : Command) (r : Refusal) → command_of words ≡ Some command → OnInput (most_read command) before after (Refuses r command) → Row words before after (status_of r) (line_of r)
   row_of command (refusal.Image fault) w p = record { refusal = refusal.Image fault; status_is = refl; line_is = refl; asked = record { command = command; named = w; bytes = p } }
   row_of command (refusal.Script fault) w p = record { refusal = refusal.Script fault; status_is = refl; line_is = refl; asked = record { command = command; named = w; bytes = p } }
+  row_of command (refusal.Build fault) w p = record { refusal = refusal.Build fault; status_is = refl; line_is = refl; asked = record { command = command; named = w; bytes = p } }
 
   abbrev Refused : Status → Type 0
   Refused s = (line : List ℕ) × Row words before after s line × said line × kept

@@ -24,7 +24,8 @@ use Rattle.blpk.specs.Made.{made_of, by_image, by_script, generated, most_for, m
 use Rattle.blpk.specs.Outcomes.{CameTo, outcome_of}
 use Rattle.blpk.specs.Words.{command_of}
 use Rattle.blpk.specs.declared.words.Command.{Command}
-use Rattle.blpk.specs.declared.words.Command.TheVariants.{Run, Gen}
+use Rattle.blpk.specs.declared.words.Command.TheVariants.{Run, Build, Gen}
+use Rattle.blpk.specs.declared.words.Command.TheVariants as command
 use Rattle.blpk.specs.declared.outcome.Outcome.{Outcome}
 use Rattle.blpk.specs.declared.outcome.Outcome.TheVariants as outcome
 use Rattle.blpk.specs.declared.outcome.Refusal.{Refusal}
@@ -62,6 +63,8 @@ isolated_for : (before after : Option (List ℕ)) (took : List ℕ → Type 0) �
 isolated_for before after took takes Run bytes m =
     let r : OfReport (λ report. report ≡ m.text) bytes = by_image_is bytes (image_of bytes) m.text refl m.made in
     of_report before after bytes (record { image = r.image; records = r.records; slots = r.slots; spells = r.spells; run = subst (Appends before after) (sym r.run) (takes m.text m.holds) })
+isolated_for before after took takes Build bytes m = tt
+isolated_for before after took takes command.List bytes m = tt
 isolated_for before after took takes (Gen n) bytes m = tt
 
 pub asked_isolated : (words : List (List ℕ)) (before after : SourceState) (taken now : Option (List ℕ)) (took : List ℕ → Type 0) → ((text : List ℕ) → took text → Appends taken now text) →

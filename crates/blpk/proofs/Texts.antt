@@ -1,5 +1,11 @@
 -- The words of faults are short.
 use Rattle.std.proofs.Common.{◌≤◌, length, arith}
+use Rattle.std.proofs.Common.{length-append}
+use Rattle.bk_asm_text.specs.Fault as assembly
+use Rattle.bk_conf.proofs.Texts as told
+use Rattle.bk_conf.specs.Fault.{kind_text as build_text}
+use Rattle.bk_conf.specs.declared.fault.BuildKind.{BuildKind}
+use Rattle.bk_conf.specs.declared.fault.BuildKind.TheVariants as build
 use Rattle.bk_image.specs.Texts.{field_text}
 use Rattle.bk_image.specs.declared.fault.ImageField.{ImageField}
 use Rattle.bk_image.specs.declared.fault.ImageField.TheVariants as field
@@ -43,3 +49,13 @@ kind_short kind.Line = omega arith
 kind_short kind.Order = omega arith
 kind_short kind.Slot = omega arith
 kind_short kind.After = omega arith
+
+pub build_short : (k : BuildKind) → length (build_text k) ≤ 18
+build_short build.Long = omega arith
+build_short build.Form = omega arith
+build_short build.Range = omega arith
+build_short build.Doubled = omega arith
+build_short (build.Program kind) = omega (arith, told.kind_short kind)
+build_short build.Unknown = omega arith
+build_short build.Missing = omega arith
+build_short (build.Image field) = omega (arith, told.field_short field)

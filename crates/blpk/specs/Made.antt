@@ -1,10 +1,14 @@
 -- What each command makes of the bytes that it reads.
-use Rattle.std.specs.Prelude.{◌≡◌, ℕ, List, Option, Some, None, Result, Ok, Err, ⊤}
+use Rattle.std.specs.Prelude.{◌≡◌, ℕ, ◌+◌, Bool, true, false, List, Option, Some, None, Result, Ok, Err, ⊤}
 use Rattle.bk_base.specs.Outside.{SourceState}
+use Rattle.bk_conf.specs.Built.{built, listing_of}
+use Rattle.bk_conf.specs.Limits.{most_bytes}
+use Rattle.bk_conf.specs.declared.fault.BuildFault.{BuildFault}
 use Rattle.bk_gen.specs.Image.{generated_image}
 use Rattle.bk_gen.specs.Script.{generated_script}
 use Rattle.bk_image.specs.declared.fault.ImageFault.{ImageFault}
 use Rattle.bk_image.specs.Image.{image_of}
+use Rattle.bk_image.specs.Spelling.{spelling}
 use Rattle.bk_script.specs.declared.fault.ScriptFault.{ScriptFault}
 use Rattle.bk_state.specs.declared.image.Image.{Image}
 use Rattle.bk_system.specs.declared.script.TypedAt.{TypedAt}
@@ -16,7 +20,8 @@ use Rattle.bk_replay.specs.Replayed.{script_after}
 use Rattle.bk_replay.specs.Isolated.{IsIsolated}
 use Rattle.blpk.specs.Words.{command_of}
 use Rattle.blpk.specs.declared.words.Command.{Command}
-use Rattle.blpk.specs.declared.words.Command.TheVariants.{Run, Gen}
+use Rattle.blpk.specs.declared.words.Command.TheVariants.{Run, Build, Gen}
+use Rattle.blpk.specs.declared.words.Command.TheVariants as command
 use Rattle.blpk.specs.declared.outcome.Refusal.{Refusal}
 use Rattle.blpk.specs.declared.outcome.Refusal.TheVariants as refusal
 use Rattle.blpk.specs.declared.status.Status.{Status}
@@ -26,6 +31,7 @@ use Rattle.blpk.specs.declared.status.Status.TheVariants as status
 abbrev pub status_of : Refusal → Status
 status_of (refusal.Image fault) = status.ImageRefused
 status_of (refusal.Script fault) = status.ScriptRefused
+status_of (refusal.Build fault) = status.BuildRefused
 
 -- ---- run
 
@@ -39,6 +45,22 @@ abbrev pub by_image : List ℕ → Result (Image × ℕ) ImageFault → Result (
 by_image bytes (Ok image) = by_script image.0 (script_after image.0 image.1 bytes)
 by_image bytes (Err fault) = Err (refusal.Image fault)
 
+-- ---- build and list
+
+-- the most bytes of a configuration that are read, so that one that is too long is known
+abbrev pub most_text : ℕ
+most_text = most_bytes + 1
+
+-- the bytes of the image, or the refusal of the configuration
+abbrev pub spelled : Result Image BuildFault → Result (List ℕ) Refusal
+spelled (Ok image) = Ok (spelling image)
+spelled (Err fault) = Err (refusal.Build fault)
+
+-- the listing, or the refusal of the configuration
+abbrev pub listed : Result (List ℕ) BuildFault → Result (List ℕ) Refusal
+listed (Ok text) = Ok text
+listed (Err fault) = Err (refusal.Build fault)
+
 -- ---- gen
 
 -- the last line of the report of the run that is generated from the number
@@ -50,23 +72,39 @@ generated n = end_text (summary_of generated_image (generated_script n).typed (g
 -- the most bytes that a command reads: `gen` reads none
 abbrev pub most_read : Command → ℕ
 most_read Run = replayed.most_read
+most_read Build = most_text
+most_read command.List = most_text
 most_read (Gen n) = 0
 
--- a command has read what it reads: `run` all that there is
+-- a command has read what it reads: all that there is, but for `gen`
 abbrev pub HasRead : Command → (before after : SourceState) → Type 0
 HasRead Run before after = IsAllRead before after
+HasRead Build before after = IsAllRead before after
+HasRead command.List before after = IsAllRead before after
 HasRead (Gen n) before after = after ≡ before
 
 -- from the bytes that a command read, the bytes to write, or why they are refused: `run` makes the report of the image and the
--- script that they are, `gen` the last line of a generated run's
+-- script that they are, `build` the bytes of the image of a configuration, `list` its listing, `gen` the last line of a generated
+-- run's
 abbrev pub made_of : Command → (bytes : List ℕ) → Result (List ℕ) Refusal
 made_of Run bytes = by_image bytes (image_of bytes)
+made_of Build bytes = spelled (built bytes)
+made_of command.List bytes = listed (listing_of bytes)
 made_of (Gen n) bytes = Ok (generated n)
 
--- what isolation says of a command's output: `run` writes line records that don't tell of bytes typed elsewhere; to `gen` nothing
--- is typed
+-- a command makes another form of a configuration
+abbrev pub is_conversion : Command → Bool
+is_conversion Run = false
+is_conversion Build = true
+is_conversion command.List = true
+is_conversion (Gen n) = false
+
+-- what isolation says of a command's output: `run` writes line records that don't tell of bytes typed elsewhere; to the others
+-- nothing is typed
 abbrev pub IsIsolatedFor : (before after : Option (List ℕ)) → Command → (bytes : List ℕ) → Type 0
 IsIsolatedFor before after Run bytes = IsIsolated before after bytes
+IsIsolatedFor before after Build bytes = ⊤
+IsIsolatedFor before after command.List bytes = ⊤
 IsIsolatedFor before after (Gen n) bytes = ⊤
 
 -- ---- what the words ask for

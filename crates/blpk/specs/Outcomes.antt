@@ -1,5 +1,8 @@
 -- What each outcome of the command comes to, and what it gives on the error output.
-use Rattle.std.specs.Prelude.{◌≡◌, ◌⊎◌, ℕ, List, Some, None, Result, Ok, Err}
+use Rattle.std.specs.Prelude.{◌≡◌, ◌⊎◌, ℕ, List, Some, None, Result, Ok, Err, Vec}
+use Rattle.bk_base.specs.declared.stop.Stop.{Stop}
+use Rattle.bk_base.specs.declared.stop.Stop.TheVariants.{Bad, NoMemory}
+use Rattle.bk_conf.specs.declared.fault.BuildFault.{BuildFault}
 use Rattle.bk_base.specs.Outside.{SourceState, Rose}
 use Rattle.bk_kernel.specs.declared.kernel.Summary.{Summary}
 use Rattle.bk_replay.specs.Input.{OnInput}
@@ -12,6 +15,7 @@ use Rattle.blpk.specs.Words.{command_of}
 use Rattle.blpk.specs.declared.words.Command.{Command}
 use Rattle.blpk.specs.declared.outcome.Outcome.{Outcome}
 use Rattle.blpk.specs.declared.outcome.Outcome.TheVariants as outcome
+use Rattle.blpk.specs.declared.outcome.Refusal.{Refusal}
 use Rattle.blpk.specs.declared.outcome.Refusal.TheVariants as refusal
 use Rattle.blpk.specs.declared.status.Status.{Status}
 use Rattle.blpk.specs.declared.status.Status.TheVariants as status
@@ -24,6 +28,21 @@ outcome_of (Err (stop.Image fault)) = outcome.Refused (refusal.Image fault)
 outcome_of (Err (stop.Script fault)) = outcome.Refused (refusal.Script fault)
 outcome_of (Err stop.Write) = outcome.Write
 outcome_of (Err stop.NoMemory) = outcome.NoMemory
+
+-- what `build` or `list` gives is what it makes, or the refusal of the configuration; or want of memory
+abbrev pub MakesText : {Z : Type 0} → Result (Vec ℕ Z) (Stop BuildFault) → Result (List ℕ) Refusal → Type 0
+MakesText (Ok bytes) made = made ≡ Ok bytes.items
+MakesText (Err NoMemory) made = Unit {0}
+MakesText (Err (Bad fault)) made = made ≡ Err (refusal.Build fault)
+
+-- a text was written, or its writing failed
+abbrev pub Wrote : (took broke : Type 0) → Outcome → Type 0
+Wrote took broke outcome.Written = took
+Wrote took broke outcome.Usage = ⊥
+Wrote took broke outcome.Read = ⊥
+Wrote took broke (outcome.Refused refusal) = ⊥
+Wrote took broke outcome.Write = broke
+Wrote took broke outcome.NoMemory = ⊥
 
 -- What a command came to. The input was seen as `before` and then as `after`; `kept` says that the output is untouched, `took`
 -- and `broke` that it took a text, or that it failed after a front of it.

@@ -4,9 +4,10 @@ ghost use Rattle.std.specs.Prelude.{◌≡◌};
 ghost use Rattle.blpk.specs.Lines.{line_of};
 ghost use Rattle.blpk.specs.Made.{status_of};
 
-use crate::lines::{image_line, script_line};
+use crate::lines::{build_line, image_line, script_line};
 use crate::status::Status;
 use arrayvec::ArrayVec;
+use bk_conf::BuildFault;
 use bk_image::ImageFault;
 use bk_script::ScriptFault;
 
@@ -15,6 +16,7 @@ use bk_script::ScriptFault;
 pub enum Refusal {
     Image(ImageFault),
     Script(ScriptFault),
+    Build(BuildFault),
 }
 
 impl Refusal {
@@ -25,6 +27,7 @@ impl Refusal {
         match self {
             Refusal::Image(_) => Status::ImageRefused,
             Refusal::Script(_) => Status::ScriptRefused,
+            Refusal::Build(_) => Status::BuildRefused,
         }
     }
 
@@ -35,6 +38,7 @@ impl Refusal {
         match self {
             Refusal::Image(fault) => image_line(fault),
             Refusal::Script(fault) => script_line(fault),
+            Refusal::Build(fault) => build_line(fault),
         }
     }
 }

@@ -15,6 +15,8 @@ pub enum Status {
     ImageRefused,
     /// The bytes after the image are no script for it.
     ScriptRefused,
+    /// A configuration has a fault.
+    BuildRefused,
     /// A read of the input failed.
     ReadFault,
     /// A write of the output, or of the error output, failed.
@@ -33,6 +35,7 @@ impl Status {
             Status::Usage => 2,
             Status::ImageRefused => 3,
             Status::ScriptRefused => 4,
+            Status::BuildRefused => 5,
             Status::ReadFault => 6,
             Status::WriteFault => 7,
             Status::NoMemory => 8,

@@ -15,8 +15,22 @@ const TOO_LONG: &[u8] = b"script refused at line 0: long\n";
 /// The first call of the sample, where a byte was typed.
 const FIRST_CALL: &[u8] = b"C 0 2 0 020 000000 010400 000000 000000 000000 010400 yes 0\n";
 
-const WRONG_WORDS: [&[&str]; 11] = [
+/// A configuration that holds what isn't there, with a program of one word.
+const PROGRAM: &[u8] = b"turns 1
+level 0 0
+schedule 0
+subject 0 0 user user 0 0 0 0 0 0 0 0 0
+object / directory 0 16
+hold 0 /1 r
+program p 0
+IOT
+endprogram
+";
+
+const WRONG_WORDS: [&[&str]; 13] = [
     &["run", "x"],
+    &["build", "x"],
+    &["List"],
     &[],
     &["RUN"],
     &[""],
@@ -250,6 +264,53 @@ fn refuses_wrong_words(rt: HostRuntime) -> Result<(), Fail> {
             (Status::WriteFault, b"", b"usage")
         )?
     );
+    Ok(())
+}
+
+/// What the word gives of a configuration.
+fn converts(alloc: Global, word: &str, text: &[u8], wanted: Wanted) -> Result<bool, Fail> {
+    gives(alloc, &[word], text, AMPLE, wanted)
+}
+
+#[test]
+fn lists_or_refuses_a_configuration(rt: HostRuntime) -> Result<(), Fail> {
+    let rows: [(&str, &[u8], Wanted); 4] = [
+        (
+            "list",
+            PROGRAM,
+            (Status::Ok, b"PROGRAM p 000000 1\n000000: 000004\n", b""),
+        ),
+        (
+            "build",
+            b"colour 1",
+            (
+                Status::BuildRefused,
+                b"",
+                b"build refused at line 1: form\n",
+            ),
+        ),
+        (
+            "list",
+            b"",
+            (
+                Status::BuildRefused,
+                b"",
+                b"build refused at line 0: missing\n",
+            ),
+        ),
+        (
+            "build",
+            PROGRAM,
+            (
+                Status::BuildRefused,
+                b"",
+                b"build refused at line 0: image exists\n",
+            ),
+        ),
+    ];
+    for (word, text, wanted) in rows {
+        assert!(rt; converts(rt.alloc(), word, text, wanted)?);
+    }
     Ok(())
 }
 

@@ -1,5 +1,5 @@
 ghost use Rattle.std.specs.Prelude.{◌≡◌, string_bytes, bytes_eq, decimal};
-ghost use Rattle.blpk.specs.Words.{command_of, number_of, texts};
+ghost use Rattle.blpk.specs.Words.{by_word, command_of, number_of, texts};
 
 use itoa::Buffer;
 
@@ -8,6 +8,10 @@ use itoa::Buffer;
 pub enum Command {
     /// Run the image and the script that the input holds.
     Run,
+    /// Write the image of the configuration that the input holds.
+    Build,
+    /// Write the listing of that configuration.
+    List,
     /// Run what is generated from the number.
     Gen(u32),
 }
@@ -29,12 +33,27 @@ fn number_of(word: &String) -> Option<u32>
     }
 }
 
+// The command that a word names alone.
+fn by_word(word: &[u8]) -> Option<Command>
+    ensures { result ≡ by_word word.now }
+{
+    if word == b"run".as_slice() {
+        Some(Command::Run)
+    } else if word == b"build".as_slice() {
+        Some(Command::Build)
+    } else if word == b"list".as_slice() {
+        Some(Command::List)
+    } else {
+        None
+    }
+}
+
 /// The command that the words name, where they name one.
 pub fn command_of(words: &Vec<String>) -> Option<Command>
     ensures { result ≡ command_of (texts words.now.items) }
 {
-    if words.len() == 1 && words[0].as_bytes() == b"run".as_slice() {
-        Some(Command::Run)
+    if words.len() == 1 {
+        by_word(words[0].as_bytes())
     } else if words.len() == 2 && words[0].as_bytes() == b"gen".as_slice() {
         number_of(&words[1]).map(Command::Gen)
     } else {
