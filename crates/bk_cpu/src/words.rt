@@ -215,6 +215,7 @@ pub(crate) fn execute_word<B: Bus>(
     ensures state { B.state bus.new ≡ left_by B.after (B.state bus.old) (executed (B.shown (B.state bus.old)) (decode_of word) regs.old).outcome }
     ensures undone { OnErr (result_of result) (undone undo.new regs.new ≡ undone undo.old regs.old) }
 {
+    // All sixteen values are named, so that the host's jump asks for no bound.
     match word >> 12 {
         0o00 => {
             if word < 0o004000 {
@@ -242,6 +243,8 @@ pub(crate) fn execute_word<B: Bus>(
         0o14 => double_in(regs, undo, bus, Bin::Bic, Width::Byte, word),
         0o15 => double_in(regs, undo, bus, Bin::Bis, Width::Byte, word),
         0o16 => double_in(regs, undo, bus, Bin::Sub, Width::Word, word),
+        0o07 => decoded(regs, undo, bus, word),
+        0o17 => decoded(regs, undo, bus, word),
         _ => decoded(regs, undo, bus, word),
     }
 }
