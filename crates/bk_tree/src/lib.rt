@@ -1,9 +1,18 @@
 //! Objects by path: where each has its place, what is kept of it, and which cell pays for it.
 //!
-//! Model: `specs/Objects.antt` (`Objects`, `IsAt`, `IsLeafOf`, `without`), `specs/Kept.antt` (`IsFit`, `Fits`, `cell_in`), `specs/Refused.antt` (`Refuses`), `specs/Needs.antt` (`needs_in`, `blocks_in`); `specs/Places.antt` (`tree_of`) says what a list of places stands for, `specs/Keys.antt` and `specs/Order.antt` what number a path has and how the list of paths is sorted, `specs/Whole.antt` (`IsWhole`) what the tables keep: the counters among them are the used numbers of the map.
-//! Calls: `Tree::reserve`, `find`, `facts`, `set_row`, `create`, `cell`, `next_leaf`, `remove_leaf`, `law_slots`, `law_kept`, `law_room`.
-//! Proved: a tree is a map from paths to facts, each path at a slot of its own below the number of slots; an object is created exactly where its path is free and its charge fits the governing cell, and then a slot is always free; the counter of each cell is its used number, from scratch over the map, after any creates and deletes; what all objects need, the blocks of segments among it, fits root's quota; each call changes the one object that it names.
-//! Tested: that objects are created, counted and removed, and that a tree of as many objects as root's quota is filled, emptied and filled again.
+//! Model: `specs/Objects.antt` (`Objects`, `IsAt`, `IsLeafOf`, `without`), `specs/Kept.antt` (`IsFit`, `Fits`, `cell_in`),
+//! `specs/Refused.antt` (`Refuses`), `specs/Needs.antt` (`needs_in`, `blocks_in`); `specs/Places.antt` (`tree_of`) says what a
+//! list of places stands for, `specs/Keys.antt` and `specs/Order.antt` what number a path has and how the list of paths is
+//! sorted, `specs/Down.antt` the numbers of free slots, `specs/Whole.antt` (`IsWhole`) what the tables keep: the counters among
+//! them are the used numbers of the map.
+//! Calls: `Tree::reserve`, `find`, `facts`, `set_row`, `create`, `cell`, `next_leaf`, `remove_leaf`, `law_slots`, `law_kept`,
+//! `law_room`.
+//! Proved: a tree is a map from paths to facts, each path at a slot of its own below the number of slots; an object is created
+//! exactly where its path is free and its charge fits the governing cell, and then a slot is always free; the counter of each
+//! cell is its used number, from scratch over the map, after any creates and deletes; what all objects need, the blocks of
+//! segments among it, fits root's quota; each call changes the one object that it names.
+//! Tested: that objects are created, counted and removed, and that a tree of as many objects as root's quota is filled, emptied
+//! and filled again.
 //! Neither: how long a call takes; that the list of paths is searched by halves is read in `src/order.rt`.
 //! Stands on: `bk_base`, `bk_object`, `bk_path`, `bk_quota`.
 #![tactic(auto)]
