@@ -1,7 +1,7 @@
 //! The pages of a subject: the registers of a machine's pages stand for what the subject may reach through its windows.
 //!
-//! Model: `specs/Pages.antt` (`page_for`, `pages_for`), `specs/StandsFor.antt` (`IsLoaded`, `kept_in`), over the definitions of
-//! `bk_machine`, `bk_store` and `bk_system`.
+//! Model: `specs/Pages.antt` (`page_for`, `pages_for`), `specs/StandsFor.antt` (`IsLoaded`, `kept_in`) and
+//! `specs/Pushing.antt` (`takes_fault`, `with_both`), over the definitions of `bk_machine`, `bk_store` and `bk_system`.
 //! Calls: `set_pages`, `run`, `fault`; `law_space`.
 //! Proved: the pages that `set_pages` sets show the space of the subject, by what it holds and where segments stand then; one
 //! instruction of the machine leaves, writes and costs what the definition says over that space, a trap adding nothing; a fault

@@ -1,18 +1,19 @@
-//! The command: an image and a script in, a report out; or a number, and the totals of the run that is generated from it.
+//! The command: an image and a script in, a report out; a configuration in, its image or its listing out; or a number, and the
+//! totals of the run that is generated from it.
 //!
 //! Model: `specs/Words.antt` (the words), `specs/Made.antt` (what each command makes of what it reads: `made_of`),
 //! `specs/Lines.antt` (the lines), `specs/Causes.antt` (what each status says), `specs/Outcomes.antt` (what the command came to)
-//! and `specs/Statuses.antt` (the numbers), over `report_of` of `bk_system`, `image_of` of `bk_image` and `script_of` of
-//! `bk_script`.
+//! and `specs/Statuses.antt` (the numbers), over `report_of` of `bk_system`, `image_of` of `bk_image`, `script_of` of
+//! `bk_script`, `built` and `listing_of` of `bk_conf`.
 //! Calls: `run_blpk`; `Status::number`, `Status::exit_code`.
 //! Proved: with status Ok all input that the command asks for was read, and exactly what it makes of it went out: the report of
-//! the abstract run, isolated for every level, or the last line of a generated run's; every other status has its cause and its
-//! line; a failed write leaves a front of the report; no failed read or write is passed over. The exit code has the status's
-//! number.
+//! the abstract run, isolated for every level, the bytes of a configuration's image, its listing, or the last line of a generated
+//! run's; every other status has its cause and its line; a failed write leaves a front of what would have gone out; no failed
+//! read or write is passed over. The exit code has the status's number.
 //! Tested: `main`: the words, the standard streams and the exit status of the built program.
 //! Neither: want of memory while the words are fetched.
-//! Stands on: `arrayvec`, `bk_base`, `bk_fixture`, `bk_gen`, `bk_image`, `bk_kernel`, `bk_laws`, `bk_level`, `bk_replay`,
-//! `bk_report`, `bk_script`, `bk_state`, `bk_system`, `itoa`.
+//! Stands on: `arrayvec`, `bk_asm_text`, `bk_base`, `bk_conf`, `bk_fixture`, `bk_gen`, `bk_image`, `bk_kernel`, `bk_laws`,
+//! `bk_level`, `bk_replay`, `bk_report`, `bk_script`, `bk_state`, `bk_system`, `itoa`.
 #![tactic(auto)]
 
 mod finish;
