@@ -66,6 +66,13 @@ fn run_on(
     }
 }
 
+// The process gets the registers that the machine has.
+fn save(machine: &Machine, process: &mut Process)
+    ensures { process.new ≡ kept_in machine.now process.old }
+{
+    process.registers = machine.process_regs();
+}
+
 impl Tables {
     /// The subject is loaded, if another one was. No instruction runs.
     pub(crate) fn load(&mut self, subject: u8)
@@ -93,7 +100,7 @@ impl Tables {
     {
         let process = &mut self.processes[self.loaded as usize];
         let ran = run_on(&mut self.machine, &self.store, self.loaded, process, most);
-        process.registers = self.machine.process_regs();
+        save(&self.machine, process);
         ran
     }
 

@@ -21,19 +21,18 @@ run_on-ran-requires-clause-loaded c =
 pub invariant_of-self : goal.invariant_of-self
 invariant_of-self c =
     let t = c.self.inside in
-    let q : Process = c.index_mut-process.result.now in
-    let now : Process = record q { registers = c.process_regs-process.result } in
+    let now : Process = c.save.new.process in
     record {
       tables = kept-set t.processes.items t.loaded now c.self.invariant.tables;
       loaded = has-set t.processes.items t.store c.run_on-ran.new.machine t.loaded now c.self.invariant.loaded.there
-          (subst (λ r. IsLoaded c.run_on-ran.new.machine t.store t.loaded (record q { registers = r })) (sym c.process_regs-process.ensures) c.run_on-ran.ensures.loaded);
+          (subst (IsLoaded c.run_on-ran.new.machine t.store t.loaded) (sym c.save.ensures) c.run_on-ran.ensures.loaded);
     }
 
 pub returns-clause-ran : goal.returns-clause-ran
 returns-clause-ran c =
     let t = c.self.inside in
     let q : Process = c.index_mut-process.result.now in
-    let now : Process = record q { registers = c.process_regs-process.result } in
+    let now : Process = c.save.new.process in
     let v : State = state_from t.clearances.items t.lines.items t.turns t.schedule.items t.processes.items t.store t.machine.core.words in
     let stands : StandsFor t.store t.machine.core.words v = kept-stands t.clearances.items t.lines.items t.turns t.schedule.items t.processes.items t.store t.machine.core.words c.self.invariant.tables.lines_are in
     let new : TablesState = record { state = state_from t.clearances.items t.lines.items t.turns t.schedule.items (slice_set t.processes.items t.loaded now) t.store c.run_on-ran.new.machine.core.words; machine = c.run_on-ran.new.machine; loaded = t.loaded } in
@@ -42,5 +41,5 @@ returns-clause-ran c =
     let found : q ≡ p = found-process t.processes.items v t.loaded p q refl there c.index_mut-process.ensures.value in
     has-run t.clearances.items t.lines.items t.turns t.schedule.items t.processes.items t.store t.machine c.run_on-ran.new.machine t.loaded p now c.run_on-ran.result.turns c.run_on-ran.result.event
     (c.self.invariant.loaded.is p there).registers
-    (λ i. record (found i) { registers = c.process_regs-process.ensures i })
+    (c.save.ensures ∙ (λ i. record (found i) { registers = c.run_on-ran.new.machine.process }))
     (subst (λ (x : Process). WentOn t.store t.machine c.run_on-ran.new.machine v t.loaded x.windows c.run_on-ran.result.turns c.run_on-ran.result.event) found (c.run_on-ran.ensures.went v stands)))
