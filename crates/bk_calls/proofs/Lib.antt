@@ -1,4 +1,6 @@
 pub mod Seen
+pub mod Extents
+pub mod PagesKept
 pub mod HeldBits
 pub mod RuleChecks
 pub mod Reaching

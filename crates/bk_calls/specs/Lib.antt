@@ -1,3 +1,4 @@
 pub mod Made
+pub mod Shown
 pub mod Decided
 pub mod Reached

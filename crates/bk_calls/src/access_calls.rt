@@ -4,6 +4,7 @@ ghost use Rattle.std.specs.Prelude.{◌≡◌, ℕ, List, IsTrue, slice_index};
 ghost use Rattle.bk_rules.specs.Decisions.{is_get};
 ghost use Rattle.bk_state.specs.Request.{is_outside};
 ghost use Rattle.bk_calls.specs.Made.{made_by, IsCaller, IsMade};
+ghost use Rattle.bk_calls.specs.Shown.{SameExtents};
 
 use crate::allowing::allowed;
 use crate::answering::{agree, refuse};
@@ -19,7 +20,8 @@ use bk_store::Store;
 pub(crate) fn get(store: &mut Store, process: &mut Process, caller: &Caller, rule: Rule) -> Reply
     requires get { IsTrue (is_get rule) }
     requires caller { IsCaller caller.now store.old }
-    ensures { (words : List ℕ) → IsMade store.old store.new words words process.new result (made_by caller.now store.old words process.old (Call.ByRule rule)) }
+    ensures made { (words : List ℕ) → IsMade store.old store.new words words process.new result (made_by caller.now store.old words process.old (Call.ByRule rule)) }
+    ensures extents { SameExtents store.old store.new }
 {
     match allowed(store, process, caller, rule, false) {
         Err(cause) => refuse(process, cause),
@@ -33,7 +35,8 @@ pub(crate) fn get(store: &mut Store, process: &mut Process, caller: &Caller, rul
 // The caller no longer holds the object by the modes in R3.
 pub(crate) fn release(store: &mut Store, process: &mut Process, caller: &Caller) -> Reply
     requires { IsCaller caller.now store.old }
-    ensures { (words : List ℕ) → IsMade store.old store.new words words process.new result (made_by caller.now store.old words process.old (Call.ByRule Rule.Release)) }
+    ensures made { (words : List ℕ) → IsMade store.old store.new words words process.new result (made_by caller.now store.old words process.old (Call.ByRule Rule.Release)) }
+    ensures extents { SameExtents store.old store.new }
 {
     let are_wrong = are_no_modes(process);
     match allowed(store, process, caller, Rule::Release, are_wrong) {

@@ -1,16 +1,18 @@
 // A kernel call, by its number.
 
-ghost use Rattle.std.specs.Prelude.{◌≡◌};
+ghost use Rattle.std.specs.Prelude.{◌≡◌, false, Some};
 ghost use Rattle.bk_state.specs.Answers.{called};
 ghost use Rattle.bk_state.specs.Calls as model;
 ghost use Rattle.bk_calls.specs.Made.{made_by, seen_by, IsCaller, IsMade};
+ghost use Rattle.bk_calls.specs.Shown as shown;
+ghost use Rattle.bk_calls.specs.Shown.{KeepsPages, SameExtents};
 
 use crate::access_calls::{get, release};
 use crate::answering::refuse;
 use crate::caller::Caller;
 use crate::process_calls::{pause, set_fault_entry, stop};
 use crate::queue_calls::{line_in, line_out, receive, send};
-use crate::reply::Reply;
+use crate::reply::{Answer, Reply};
 use crate::row_calls::{give, rescind};
 use crate::segment_calls::{deposit, unwindow, window};
 use crate::telling_calls::{entry, identify, quota};
@@ -22,7 +24,8 @@ use bk_store::Store;
 
 /// The call of that number, by the caller, with its registers as they are in the process: the checks in their order, the
 /// first that fails being the cause; on yes the call's change, and its values in the registers. A refused call changes R0
-/// and R1 alone. No memory is taken, and core blocks 0 to 63 keep their words.
+/// and R1 alone. No memory is taken, and core blocks 0 to 63 keep their words. Where `changes_pages` is false of number and
+/// answer, all that pages are made of stays.
 pub fn call(
     store: &mut Store,
     core: &mut Core,
@@ -31,12 +34,35 @@ pub fn call(
     number: u8,
 ) -> Reply
     requires { IsCaller caller.now store.old }
-    ensures { IsMade store.old store.new core.old.words core.new.words process.new result (called (seen_by caller.now store.old core.old.words) caller.now.subject process.old number) }
+    ensures made { IsMade store.old store.new core.old.words core.new.words process.new result (called (seen_by caller.now store.old core.old.words) caller.now.subject process.old number) }
+    ensures pages { shown.changes_pages number result.answer ≡ false → KeepsPages store.old store.new process.old process.new }
 {
     match call_of(number) {
         Some(Call::ByRule(rule)) => decide_rule(store, core, process, caller, rule),
         Some(Call::Other(service)) => serve(store, core, process, caller, service),
         None => refuse(process, CallCause::NoCall),
+    }
+}
+
+/// Whether a call of that number, answered so, may have changed what a page shows: by what is held, by where a segment
+/// stands, or by a window of the caller. A refused call never has.
+pub fn changes_pages(number: u8, answer: Answer) -> bool
+    ensures { result ≡ shown.changes_pages number answer }
+{
+    match answer {
+        Answer::Yes => changes_on_yes(call_of(number)),
+        Answer::No(_) | Answer::Unknown(_) => false,
+    }
+}
+
+// Whether the call, answered yes, may have changed what a page shows.
+fn changes_on_yes(call: Option<Call>) -> bool
+    ensures { result ≡ shown.call_changes_pages call }
+{
+    match call {
+        Some(Call::ByRule(rule)) => !matches!(rule, Rule::Give),
+        Some(Call::Other(service)) => matches!(service, Service::Window | Service::Unwindow),
+        None => false,
     }
 }
 
@@ -80,7 +106,8 @@ fn decide_rule(
     rule: Rule,
 ) -> Reply
     requires { IsCaller caller.now store.old }
-    ensures { IsMade store.old store.new core.old.words core.new.words process.new result (made_by caller.now store.old core.old.words process.old (Call.ByRule rule)) }
+    ensures made { IsMade store.old store.new core.old.words core.new.words process.new result (made_by caller.now store.old core.old.words process.old (Call.ByRule rule)) }
+    ensures extents { shown.answered_changes_pages (Some (Call.ByRule rule)) result.answer ≡ false → SameExtents store.old store.new }
 {
     match rule {
         Rule::GetRead | Rule::GetAppend | Rule::GetExecute | Rule::GetWrite => {
@@ -103,7 +130,8 @@ fn serve(
     service: Service,
 ) -> Reply
     requires { IsCaller caller.now store.old }
-    ensures { IsMade store.old store.new core.old.words core.new.words process.new result (made_by caller.now store.old core.old.words process.old (Call.Other service)) }
+    ensures made { IsMade store.old store.new core.old.words core.new.words process.new result (made_by caller.now store.old core.old.words process.old (Call.Other service)) }
+    ensures extents { SameExtents store.old store.new }
 {
     match service {
         Service::Window => window(store, process, caller),

@@ -4,6 +4,7 @@ ghost use Rattle.std.specs.Prelude.{◌≡◌, ◌<◌, ℕ, List, option_map};
 ghost use Rattle.bk_object.specs.Rows.{most_subjects};
 ghost use Rattle.bk_state.specs.QueueCalls.{line_of};
 ghost use Rattle.bk_calls.specs.Made.{made_by, IsMade};
+ghost use Rattle.bk_calls.specs.Shown.{SameExtents};
 
 use crate::answering::{agree, refuse};
 use crate::caller::Caller;
@@ -17,7 +18,8 @@ use bk_store::Store;
 // The message in R0 and R3 to R5 goes to the mailbox at the path, of which the caller holds w or a.
 pub(crate) fn send(store: &mut Store, process: &mut Process, caller: &Caller) -> Reply
     requires { caller.now.subject < most_subjects }
-    ensures { (words : List ℕ) → IsMade store.old store.new words words process.new result (made_by caller.now store.old words process.old (Call.Other Service.Send)) }
+    ensures made { (words : List ℕ) → IsMade store.old store.new words words process.new result (made_by caller.now store.old words process.old (Call.Other Service.Send)) }
+    ensures extents { SameExtents store.old store.new }
 {
     let asked = Asked {
         is_wrong: false,
@@ -38,7 +40,8 @@ pub(crate) fn send(store: &mut Store, process: &mut Process, caller: &Caller) ->
 // The oldest message of the mailbox at the path, of which the caller holds w, and how many were lost.
 pub(crate) fn receive(store: &mut Store, process: &mut Process, caller: &Caller) -> Reply
     requires { caller.now.subject < most_subjects }
-    ensures { (words : List ℕ) → IsMade store.old store.new words words process.new result (made_by caller.now store.old words process.old (Call.Other Service.Receive)) }
+    ensures made { (words : List ℕ) → IsMade store.old store.new words words process.new result (made_by caller.now store.old words process.old (Call.Other Service.Receive)) }
+    ensures extents { SameExtents store.old store.new }
 {
     let asked = Asked {
         is_wrong: false,
@@ -99,7 +102,8 @@ fn sent_on(kind: Kind, byte: u8) -> Option<LineByte>
 // The oldest typed byte of the line at the path, of which the caller holds w.
 pub(crate) fn line_in(store: &mut Store, process: &mut Process, caller: &Caller) -> Reply
     requires { caller.now.subject < most_subjects }
-    ensures { (words : List ℕ) → IsMade store.old store.new words words process.new result (made_by caller.now store.old words process.old (Call.Other Service.LineIn)) }
+    ensures made { (words : List ℕ) → IsMade store.old store.new words words process.new result (made_by caller.now store.old words process.old (Call.Other Service.LineIn)) }
+    ensures extents { SameExtents store.old store.new }
 {
     let asked = Asked {
         is_wrong: false,

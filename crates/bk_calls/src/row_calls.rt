@@ -5,6 +5,7 @@ ghost use Rattle.bk_state.specs.Request.{request_in};
 ghost use Rattle.bk_state.specs.RowCalls as model;
 ghost use Rattle.bk_store.specs.Stored.{Stored};
 ghost use Rattle.bk_calls.specs.Made.{made_by, seen_by, IsCaller, IsMade};
+ghost use Rattle.bk_calls.specs.Shown.{SameExtents};
 
 use crate::access_calls::are_no_modes;
 use crate::allowing::allowed;
@@ -20,7 +21,8 @@ use bk_store::Store;
 // The object grants the modes in R3 to the subject in R4 too.
 pub(crate) fn give(store: &mut Store, process: &mut Process, caller: &Caller) -> Reply
     requires { IsCaller caller.now store.old }
-    ensures { (words : List ℕ) → IsMade store.old store.new words words process.new result (made_by caller.now store.old words process.old (Call.ByRule Rule.Give)) }
+    ensures made { (words : List ℕ) → IsMade store.old store.new words words process.new result (made_by caller.now store.old words process.old (Call.ByRule Rule.Give)) }
+    ensures extents { SameExtents store.old store.new }
 {
     let is_wrong = is_wrong_grant(process, caller);
     match allowed(store, process, caller, Rule::Give, is_wrong) {
@@ -35,7 +37,8 @@ pub(crate) fn give(store: &mut Store, process: &mut Process, caller: &Caller) ->
 // The object no longer grants the modes in R3 to the subject in R4, who no longer holds it by them.
 pub(crate) fn rescind(store: &mut Store, process: &mut Process, caller: &Caller) -> Reply
     requires { IsCaller caller.now store.old }
-    ensures { (words : List ℕ) → IsMade store.old store.new words words process.new result (made_by caller.now store.old words process.old (Call.ByRule Rule.Rescind)) }
+    ensures made { (words : List ℕ) → IsMade store.old store.new words words process.new result (made_by caller.now store.old words process.old (Call.ByRule Rule.Rescind)) }
+    ensures extents { SameExtents store.old store.new }
 {
     let is_wrong = is_wrong_grant(process, caller);
     match allowed(store, process, caller, Rule::Rescind, is_wrong) {

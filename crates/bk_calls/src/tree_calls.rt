@@ -1,15 +1,16 @@
 // The calls by which objects come and go.
 
-ghost use Rattle.std.specs.Prelude.{◌≡◌, ℕ, List};
+ghost use Rattle.std.specs.Prelude.{◌≡◌, ◌≢◌, ℕ, List};
 ghost use Rattle.bk_state.specs.Request.{request_in};
 ghost use Rattle.bk_state.specs.TreeCalls as model;
 ghost use Rattle.bk_calls.specs.Made.{made_by, seen_by, IsCaller, IsMade};
+ghost use Rattle.bk_calls.specs.Shown.{SameExtents};
 
 use crate::allowing::allowed;
 use crate::answering::{agree, refuse};
 use crate::caller::Caller;
 use crate::new_object::{has_level, is_no_object, level_number, new_facts};
-use crate::reply::Reply;
+use crate::reply::{Answer, Reply};
 use bk_core::Core;
 use bk_process::Process;
 use bk_rules::Rule;
@@ -24,7 +25,8 @@ pub(crate) fn create(
     caller: &Caller,
 ) -> Reply
     requires { IsCaller caller.now store.old }
-    ensures { IsMade store.old store.new core.old.words core.new.words process.new result (made_by caller.now store.old core.old.words process.old (Call.ByRule Rule.Create)) }
+    ensures made { IsMade store.old store.new core.old.words core.new.words process.new result (made_by caller.now store.old core.old.words process.old (Call.ByRule Rule.Create)) }
+    ensures extents { result.answer ≢ Answer.Yes → SameExtents store.old store.new }
 {
     let is_wrong = is_wrong_object(store, process);
     match allowed(store, process, caller, Rule::Create, is_wrong) {
@@ -41,7 +43,8 @@ pub(crate) fn create(
 // The object and all its inferiors go.
 pub(crate) fn delete_group(store: &mut Store, process: &mut Process, caller: &Caller) -> Reply
     requires { IsCaller caller.now store.old }
-    ensures { (words : List ℕ) → IsMade store.old store.new words words process.new result (made_by caller.now store.old words process.old (Call.ByRule Rule.DeleteGroup)) }
+    ensures made { (words : List ℕ) → IsMade store.old store.new words words process.new result (made_by caller.now store.old words process.old (Call.ByRule Rule.DeleteGroup)) }
+    ensures extents { result.answer ≢ Answer.Yes → SameExtents store.old store.new }
 {
     match allowed(store, process, caller, Rule::DeleteGroup, false) {
         Err(cause) => refuse(process, cause),

@@ -10,6 +10,7 @@ use Rattle.bk_calls.specs.Made.{seen_by}
 use Rattle.bk_calls.proofs.Seen.{with_lines}
 use Rattle.bk_calls.proofs.RuleChecks.{none-wrong}
 use Rattle.bk_calls.proofs.RuleChanges.{is_of_object, object-there, rule-made, stands-got}
+use Rattle.bk_calls.specs.Shown.{SameExtents}
 use Rattle.bk_calls.proofs.access_calls.get.Goals as goal
 
 pub allowed-requires-clause-argument : goal.allowed-requires-clause-argument
@@ -29,8 +30,8 @@ hold-requires-clause-there c = object-there c.args.caller.now c.args.store.now c
     of Create h = cc
     of DeleteGroup h = cc
 
-pub returns-in-Ok : goal.returns-in-Ok
-returns-in-Ok c = λ words.
+pub returns-in-Ok-clause-made : goal.returns-in-Ok-clause-made
+returns-in-Ok-clause-made c = λ words.
     let store = c.args.store.now in
     let caller = c.args.caller.now in
     let request = request_in c.args.process.now.registers.general in
@@ -38,3 +39,6 @@ returns-in-Ok c = λ words.
     (subst (λ (x : Stored). StandsFor x words (changed (with_lines store (seen_by caller store words)) caller.subject c.args.rule request)) (sym c.hold.ensures)
     (stands-got caller store words caller.subject c.args.rule request c.in-Ok.path c.mode_of.result c.requires.get c.in-Ok.ensures.0 (c.mode_of.ensures.mode request)))
     refl c.agree.ensures.process c.agree.ensures.reply
+
+pub returns-in-Ok-clause-extents : goal.returns-in-Ok-clause-extents
+returns-in-Ok-clause-extents c = subst (λ (x : Stored). SameExtents c.args.store.now x) (sym c.hold.ensures) (λ path. refl)

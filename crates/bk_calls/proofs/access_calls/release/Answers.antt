@@ -7,10 +7,11 @@ use Rattle.bk_store.specs.Stored.{Stored}
 use Rattle.bk_calls.specs.Made.{seen_by}
 use Rattle.bk_calls.proofs.Seen.{with_lines}
 use Rattle.bk_calls.proofs.RuleChanges.{rule-made, stands-let_go}
+use Rattle.bk_calls.specs.Shown.{SameExtents}
 use Rattle.bk_calls.proofs.access_calls.release.Goals as goal
 
-pub returns-in-Ok : goal.returns-in-Ok
-returns-in-Ok c = λ words.
+pub returns-in-Ok-clause-made : goal.returns-in-Ok-clause-made
+returns-in-Ok-clause-made c = λ words.
     let store = c.args.store.now in
     let caller = c.args.caller.now in
     let request = request_in c.args.process.now.registers.general in
@@ -18,3 +19,6 @@ returns-in-Ok c = λ words.
     (subst (λ (x : Stored). StandsFor x words (changed (with_lines store (seen_by caller store words)) caller.subject Release request)) (sym c.release.ensures)
     (stands-let_go caller store words caller.subject request c.in-Ok.path c.in-Ok.ensures.0 c.modes_of.result c.modes_of.ensures))
     refl c.agree.ensures.process c.agree.ensures.reply
+
+pub returns-in-Ok-clause-extents : goal.returns-in-Ok-clause-extents
+returns-in-Ok-clause-extents c = subst (λ (x : Stored). SameExtents c.args.store.now x) (sym c.release.ensures) (λ path. refl)

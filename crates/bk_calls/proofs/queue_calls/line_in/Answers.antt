@@ -17,6 +17,7 @@ use Rattle.bk_calls.proofs.TypedBytes.{byte-agrees, byte_told, line-stays, no_by
 use Rattle.bk_calls.proofs.Reaching.{hit, skip}
 use Rattle.bk_calls.proofs.Served.{moved, passes-facts}
 use Rattle.bk_calls.proofs.Serving.{agreed-made, decided, fails, found, refused-after, refused-reach}
+use Rattle.bk_calls.proofs.Extents.{moved-extents}
 use Rattle.bk_calls.proofs.queue_calls.line_in.Goals as goal
 
 pub take_byte-requires : goal.take_byte-requires
@@ -24,12 +25,12 @@ take_byte-requires c =
     let here = found c.args.caller.now c.args.store.now [] LineIn c.args.process.now.registers.general c.reach.result c.in-Ok.reached (c.reach.ensures.reached LineIn (record { wrong = λ v. refl; modes = refl; sort = λ kind. refl; needs = refl })) c.in-Ok.is in
     passes-facts c.args.store.now c.in-Ok.reached.path c.in-Ok.reached.facts (λ facts. is_any_line facts.kind) here.facts ∙ here.kind
 
-pub returns-in-Err : goal.returns-in-Err
-returns-in-Err c = λ words. refused-reach c.args.caller.now c.args.store.now words c.args.process.now c.refuse.new.process c.refuse.result LineIn c.reach.result c.in-Err.cause refl (c.reach.ensures.reached LineIn (record { wrong = λ v. refl; modes = refl; sort = λ kind. refl; needs = refl })) c.in-Err.is c.refuse.ensures.process c.refuse.ensures.reply
+pub returns-in-Err-clause-made : goal.returns-in-Err-clause-made
+returns-in-Err-clause-made c = λ words. refused-reach c.args.caller.now c.args.store.now words c.args.process.now c.refuse.new.process c.refuse.result LineIn c.reach.result c.in-Err.cause refl (c.reach.ensures.reached LineIn (record { wrong = λ v. refl; modes = refl; sort = λ kind. refl; needs = refl })) c.in-Err.is c.refuse.ensures.process c.refuse.ensures.reply
 
-pub returns-in-Some : goal.returns-in-Some
+pub returns-in-Some-clause-made : goal.returns-in-Some-clause-made
 unfolding outcome reply
-returns-in-Some c = λ words.
+returns-in-Some-clause-made c = λ words.
     let general = c.args.process.now.registers.general in
     let path = c.in-Ok.reached.path in
     let here = found c.args.caller.now c.args.store.now words LineIn general c.reach.result c.in-Ok.reached (c.reach.ensures.reached LineIn (record { wrong = λ v. refl; modes = refl; sort = λ kind. refl; needs = refl })) c.in-Ok.is in
@@ -51,8 +52,8 @@ returns-in-Some c = λ words.
       kernel = refl;
     })
 
-pub returns-in-None : goal.returns-in-None
-returns-in-None c = λ words.
+pub returns-in-None-clause-made : goal.returns-in-None-clause-made
+returns-in-None-clause-made c = λ words.
     let general = c.args.process.now.registers.general in
     let path = c.in-Ok.reached.path in
     let here = found c.args.caller.now c.args.store.now words LineIn general c.reach.result c.in-Ok.reached (c.reach.ensures.reached LineIn (record { wrong = λ v. refl; modes = refl; sort = λ kind. refl; needs = refl })) c.in-Ok.is in
@@ -63,3 +64,9 @@ returns-in-None c = λ words.
     (decided c.args.caller.now c.args.store.now words LineIn general c.reach.result c.in-Ok.reached refl (c.reach.ensures.reached LineIn (record { wrong = λ v. refl; modes = refl; sort = λ kind. refl; needs = refl })) c.in-Ok.is
     ∙ hit (fails c.args.caller.now c.args.store.now words LineIn general) Empty [] (ap (λ p. not (passes (λ (o : Object). has_byte o.contents) (find (seen_by c.args.caller.now c.args.store.now words) p))) here.path ∙ ap not none))
     c.refuse-in-None.ensures.process c.refuse-in-None.ensures.reply
+
+pub returns-in-Some-clause-extents : goal.returns-in-Some-clause-extents
+returns-in-Some-clause-extents c = moved-extents c.args.store.now c.take_byte.new.self c.in-Ok.reached.path (with_queue (with_input without_first)) c.take_byte.ensures.rest (λ e. refl)
+
+pub returns-in-None-clause-extents : goal.returns-in-None-clause-extents
+returns-in-None-clause-extents c = moved-extents c.args.store.now c.take_byte.new.self c.in-Ok.reached.path (with_queue (with_input without_first)) c.take_byte.ensures.rest (λ e. refl)

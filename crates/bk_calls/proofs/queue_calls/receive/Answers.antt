@@ -17,6 +17,7 @@ use Rattle.bk_calls.proofs.Mailboxes.{mail-stays, message_told, no_message, some
 use Rattle.bk_calls.proofs.Reaching.{hit, skip}
 use Rattle.bk_calls.proofs.Served.{moved, passes-facts}
 use Rattle.bk_calls.proofs.Serving.{agreed-made, decided, fails, found, refused-after, refused-reach}
+use Rattle.bk_calls.proofs.Extents.{moved-extents}
 use Rattle.bk_calls.proofs.queue_calls.receive.Goals as goal
 
 pub take_message-requires : goal.take_message-requires
@@ -24,12 +25,12 @@ take_message-requires c =
     let here = found c.args.caller.now c.args.store.now [] Receive c.args.process.now.registers.general c.reach.result c.in-Ok.reached (c.reach.ensures.reached Receive (record { wrong = λ v. refl; modes = refl; sort = λ kind. refl; needs = refl })) c.in-Ok.is in
     passes-facts c.args.store.now c.in-Ok.reached.path c.in-Ok.reached.facts (λ facts. is_mailbox facts.kind) here.facts ∙ here.kind
 
-pub returns-in-Err : goal.returns-in-Err
-returns-in-Err c = λ words. refused-reach c.args.caller.now c.args.store.now words c.args.process.now c.refuse.new.process c.refuse.result Receive c.reach.result c.in-Err.cause refl (c.reach.ensures.reached Receive (record { wrong = λ v. refl; modes = refl; sort = λ kind. refl; needs = refl })) c.in-Err.is c.refuse.ensures.process c.refuse.ensures.reply
+pub returns-in-Err-clause-made : goal.returns-in-Err-clause-made
+returns-in-Err-clause-made c = λ words. refused-reach c.args.caller.now c.args.store.now words c.args.process.now c.refuse.new.process c.refuse.result Receive c.reach.result c.in-Err.cause refl (c.reach.ensures.reached Receive (record { wrong = λ v. refl; modes = refl; sort = λ kind. refl; needs = refl })) c.in-Err.is c.refuse.ensures.process c.refuse.ensures.reply
 
-pub returns-in-Some : goal.returns-in-Some
+pub returns-in-Some-clause-made : goal.returns-in-Some-clause-made
 unfolding outcome reply
-returns-in-Some c = λ words.
+returns-in-Some-clause-made c = λ words.
     let general = c.args.process.now.registers.general in
     let path = c.in-Ok.reached.path in
     let here = found c.args.caller.now c.args.store.now words Receive general c.reach.result c.in-Ok.reached (c.reach.ensures.reached Receive (record { wrong = λ v. refl; modes = refl; sort = λ kind. refl; needs = refl })) c.in-Ok.is in
@@ -51,8 +52,8 @@ returns-in-Some c = λ words.
       kernel = refl;
     })
 
-pub returns-in-None : goal.returns-in-None
-returns-in-None c = λ words.
+pub returns-in-None-clause-made : goal.returns-in-None-clause-made
+returns-in-None-clause-made c = λ words.
     let general = c.args.process.now.registers.general in
     let path = c.in-Ok.reached.path in
     let here = found c.args.caller.now c.args.store.now words Receive general c.reach.result c.in-Ok.reached (c.reach.ensures.reached Receive (record { wrong = λ v. refl; modes = refl; sort = λ kind. refl; needs = refl })) c.in-Ok.is in
@@ -63,3 +64,9 @@ returns-in-None c = λ words.
     (decided c.args.caller.now c.args.store.now words Receive general c.reach.result c.in-Ok.reached refl (c.reach.ensures.reached Receive (record { wrong = λ v. refl; modes = refl; sort = λ kind. refl; needs = refl })) c.in-Ok.is
     ∙ hit (fails c.args.caller.now c.args.store.now words Receive general) Empty [] (ap (λ p. not (passes (λ (o : Object). has_message o.contents) (find (seen_by c.args.caller.now c.args.store.now words) p))) here.path ∙ ap not none))
     c.refuse-in-None.ensures.process c.refuse-in-None.ensures.reply
+
+pub returns-in-Some-clause-extents : goal.returns-in-Some-clause-extents
+returns-in-Some-clause-extents c = moved-extents c.args.store.now c.take_message.new.self c.in-Ok.reached.path (with_queue (with_mail received)) c.take_message.ensures.rest (λ e. refl)
+
+pub returns-in-None-clause-extents : goal.returns-in-None-clause-extents
+returns-in-None-clause-extents c = moved-extents c.args.store.now c.take_message.new.self c.in-Ok.reached.path (with_queue (with_mail received)) c.take_message.ensures.rest (λ e. refl)

@@ -10,6 +10,7 @@ use Rattle.bk_calls.specs.declared.reply.Reply.{Reply}
 use Rattle.bk_calls.proofs.Mailboxes.{put-agrees}
 use Rattle.bk_calls.proofs.Served.{moved, passes-facts}
 use Rattle.bk_calls.proofs.Serving.{agreed-made, decided, found, refused-reach}
+use Rattle.bk_calls.proofs.Extents.{moved-extents}
 use Rattle.bk_calls.proofs.queue_calls.send.Goals as goal
 
 pub put_message-requires : goal.put_message-requires
@@ -17,12 +18,12 @@ put_message-requires c =
     let here = found c.args.caller.now c.args.store.now [] Send c.args.process.now.registers.general c.reach.result c.in-Ok.reached (c.reach.ensures.reached Send (record { wrong = λ v. refl; modes = refl; sort = λ kind. refl; needs = refl })) c.in-Ok.is in
     passes-facts c.args.store.now c.in-Ok.reached.path c.in-Ok.reached.facts (λ facts. is_mailbox facts.kind) here.facts ∙ here.kind
 
-pub returns-in-Err : goal.returns-in-Err
-returns-in-Err c = λ words. refused-reach c.args.caller.now c.args.store.now words c.args.process.now c.refuse.new.process c.refuse.result Send c.reach.result c.in-Err.cause refl (c.reach.ensures.reached Send (record { wrong = λ v. refl; modes = refl; sort = λ kind. refl; needs = refl })) c.in-Err.is c.refuse.ensures.process c.refuse.ensures.reply
+pub returns-in-Err-clause-made : goal.returns-in-Err-clause-made
+returns-in-Err-clause-made c = λ words. refused-reach c.args.caller.now c.args.store.now words c.args.process.now c.refuse.new.process c.refuse.result Send c.reach.result c.in-Err.cause refl (c.reach.ensures.reached Send (record { wrong = λ v. refl; modes = refl; sort = λ kind. refl; needs = refl })) c.in-Err.is c.refuse.ensures.process c.refuse.ensures.reply
 
-pub returns-in-Ok : goal.returns-in-Ok
+pub returns-in-Ok-clause-made : goal.returns-in-Ok-clause-made
 unfolding outcome reply
-returns-in-Ok c = λ words.
+returns-in-Ok-clause-made c = λ words.
     let general = c.args.process.now.registers.general in
     let message = slice_index general 0 ∷ slice_index general 3 ∷ slice_index general 4 ∷ slice_index general 5 ∷ [] in
     let here = found c.args.caller.now c.args.store.now words Send general c.reach.result c.in-Ok.reached (c.reach.ensures.reached Send (record { wrong = λ v. refl; modes = refl; sort = λ kind. refl; needs = refl })) c.in-Ok.is in
@@ -40,3 +41,9 @@ returns-in-Ok c = λ words.
       sent = ap (λ (r : Reply). r.sent) c.agree.ensures.reply;
       kernel = refl;
     })
+
+pub returns-in-Ok-clause-extents : goal.returns-in-Ok-clause-extents
+returns-in-Ok-clause-extents c =
+    let general = c.args.process.now.registers.general in
+    let message = slice_index general 0 ∷ slice_index general 3 ∷ slice_index general 4 ∷ slice_index general 5 ∷ [] in
+    moved-extents c.args.store.now c.put_message.new.self c.in-Ok.reached.path (with_queue (with_mail (sent message))) c.put_message.ensures.rest (λ e. refl)

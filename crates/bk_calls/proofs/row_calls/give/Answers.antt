@@ -8,6 +8,9 @@ use Rattle.bk_store.specs.Stored.{Stored}
 use Rattle.bk_calls.specs.Made.{seen_by}
 use Rattle.bk_calls.proofs.Seen.{with_lines}
 use Rattle.bk_calls.proofs.RuleChanges.{object-there, subject-there, rule-made, stands-granted}
+use Rattle.bk_object.specs.Rows.{given}
+use Rattle.bk_store.specs.Stored.{with_row}
+use Rattle.bk_calls.proofs.Extents.{moved-extents}
 use Rattle.bk_calls.proofs.row_calls.give.Goals as goal
 
 pub allowed-requires-clause-argument : goal.allowed-requires-clause-argument
@@ -22,8 +25,8 @@ give-requires-clause-subject c = let there = subject-there c.args.caller.now c.a
 pub give-requires-clause-there : goal.give-requires-clause-there
 give-requires-clause-there c = object-there c.args.caller.now c.args.store.now c.args.process.now.registers.general Give c.in-Ok.path c.in-Ok.ensures.0 refl c.in-Ok.ensures.1
 
-pub returns-in-Ok : goal.returns-in-Ok
-returns-in-Ok c = λ words.
+pub returns-in-Ok-clause-made : goal.returns-in-Ok-clause-made
+returns-in-Ok-clause-made c = λ words.
     let store = c.args.store.now in
     let caller = c.args.caller.now in
     let request = request_in c.args.process.now.registers.general in
@@ -31,3 +34,7 @@ returns-in-Ok c = λ words.
     (subst (λ (x : Stored). StandsFor x words (changed (with_lines store (seen_by caller store words)) caller.subject Give request)) (sym c.give.ensures)
     (stands-granted caller store words caller.subject request c.in-Ok.path c.in-Ok.ensures.0 (slice_index c.args.process.now.registers.general 4) c.modes_of.result refl c.modes_of.ensures))
     refl c.agree.ensures.process c.agree.ensures.reply
+
+pub returns-in-Ok-clause-extents : goal.returns-in-Ok-clause-extents
+returns-in-Ok-clause-extents c =
+    moved-extents c.args.store.now c.give.new.self c.in-Ok.path (with_row (given (slice_index c.args.process.now.registers.general 4) c.modes_of.result)) c.give.ensures (λ e. refl)

@@ -9,6 +9,7 @@ use Rattle.bk_state.specs.declared.rule.Rule.TheVariants.{Create}
 use Rattle.bk_store.specs.Stored.{Fits, HasDirectory, IsCreated, level_number}
 use Rattle.bk_calls.proofs.NewObjects.{created-ok, new-below, new-fits, new-free, new-level, new-parent, new-room, stands-new}
 use Rattle.bk_calls.proofs.RuleChanges.{rule-made}
+use Rattle.bk_calls.specs.declared.reply.Reply.{Reply}
 use Rattle.bk_calls.proofs.tree_calls.create.Goals as goal
 
 pub allowed-requires-clause-argument : goal.allowed-requires-clause-argument
@@ -47,8 +48,8 @@ unwrap-requires c =
     (λ over. (c.create.ensures.quota.0 over).1 (subst (λ p. Fits store p c.new_facts-facts.result) at (subst (λ (f : Facts). Fits store (path_in general) f) (sym c.new_facts-facts.ensures)
     (new-room c.args.caller.now store [] general (c.in-Ok.ensures.1 []) c.level_number.result number))))
 
-pub returns-in-Ok : goal.returns-in-Ok
-returns-in-Ok c =
+pub returns-in-Ok-clause-made : goal.returns-in-Ok-clause-made
+returns-in-Ok-clause-made c =
     let store = c.args.store.now in
     let general = c.args.process.now.registers.general in
     let number : c.level_number.result ≡ level_number store (parent c.in-Ok.path) = c.level_number.ensures ∙ ap (level_number store) c.above.ensures in
@@ -57,3 +58,6 @@ returns-in-Ok c =
     rule-made c.args.caller.now store c.create.new.self c.args.core.now.words c.create.new.core.words c.args.process.now c.agree.new.process c.agree.result Create c.in-Ok.ensures.1
     (stands-new c.args.caller.now store c.create.new.self c.args.core.now.words c.create.new.core.words general c.in-Ok.path c.new_facts-facts.result c.level_number.result c.in-Ok.ensures.0 number c.new_facts-facts.ensures created)
     c.create.ensures.kernel c.agree.ensures.process c.agree.ensures.reply
+
+pub returns-in-Ok-clause-extents : goal.returns-in-Ok-clause-extents
+returns-in-Ok-clause-extents c = λ other. absurd (other (ap (λ (r : Reply). r.answer) c.agree.ensures.reply))
