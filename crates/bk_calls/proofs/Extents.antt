@@ -4,7 +4,7 @@ use Rattle.std.specs.Ordering.{eq_by_cmp}
 use Rattle.std.specs.FinMap as finite
 use Rattle.bk_path.specs.Paths.{Path, path_cmp}
 use Rattle.bk_path.specs.Orders.{path_total, same_path, ties-same}
-use Rattle.bk_store.specs.Stored.{Entry, Stored, changed_at, changed_by, extent_at, extent_in}
+use Rattle.bk_store.specs.Stored.{Entry, Stored, changed_at, changed_by, extent_at}
 use Rattle.bk_calls.specs.Shown.{SameExtents}
 
 -- an object that is put where one with its extent stands
