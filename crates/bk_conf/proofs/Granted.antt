@@ -1,5 +1,5 @@
 -- Rows, one subject after the other.
-use Rattle.std.proofs.Common.{◌≡◌, ℕ, ◌+◌, ap, add-one, ◌∙◌, refl}
+use Rattle.std.proofs.Common.{◌≡◌, ℕ, ◌+◌, ap, add-one, refl}
 use Rattle.bk_object.specs.declared.modes.Modes.{Modes}
 use Rattle.bk_object.specs.Rows.{empty_row, given}
 use Rattle.bk_path.specs.Paths.{Path}

@@ -1,6 +1,5 @@
 -- Lines that are passed over, and numbers of lines.
-use Rattle.std.proofs.Common.{◌≡◌, ℕ, suc, ◌+◌, ◌-◌, ◌^◌, List, [], ◌∷◌, ◌++◌, length, refl, ap, ◌∙◌, sym, arith}
-use Rattle.std.specs.Prelude.{min}
+use Rattle.std.proofs.Common.{◌≡◌, ℕ, suc, List, [], ◌∷◌, ◌++◌, length, refl, ap, ◌∙◌, arith}
 use Rattle.bk_conf.specs.Fault.{line_after}
 use Rattle.bk_conf.specs.Lines.{Text}
 use Rattle.bk_conf.specs.Said.{Said}

@@ -1,6 +1,5 @@
 -- What a program's line comes to, check by check.
-use Rattle.std.proofs.Common.{◌≡◌, ℕ, ◌+◌, ◌%◌, Bool, true, false, List, [], ◌∷◌, length, Some, None, Ok, Err, refl, sym, ap, subst, ◌∙◌, arith, ◌==◌, ◌≢◌}
-use Rattle.std.specs.Prelude.{Option, Result}
+use Rattle.std.proofs.Common.{◌≡◌, ℕ, ◌+◌, ◌%◌, true, false, List, length, Some, None, Ok, Err, refl, sym, ap, subst, ◌∙◌, arith, ◌==◌, ◌≢◌}
 use Rattle.std.proofs.lemmas.Bool.Decides.{nat_tests}
 use Rattle.bk_asm.specs.Assembled.{assembled}
 use Rattle.bk_asm.specs.declared.Program.{Program}

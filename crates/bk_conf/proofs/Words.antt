@@ -1,7 +1,7 @@
 -- The words of programs by their names, as the code keeps them.
-use Rattle.std.proofs.Common.{◌≡◌, ℕ, Bool, true, false, List, [], ◌∷◌, refl, ap, cond}
-use Rattle.std.specs.Prelude.{Vec, Option, Some}
-use Rattle.std.specs.BTreeMap.{insert_entry, is_at}
+use Rattle.std.proofs.Common.{◌≡◌, ℕ, List, [], ◌∷◌, refl, ap, cond}
+use Rattle.std.specs.Prelude.{Vec, Some}
+use Rattle.std.specs.BTreeMap.{insert_entry}
 use Rattle.std.specs.Map.{lookup}
 use Rattle.std.specs.Ordering.{nat_cmp, match_ordering, is_eq}
 use Rattle.std.specs.Cmp.Lexicographic.{slice_cmp}

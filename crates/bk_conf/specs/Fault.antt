@@ -1,5 +1,5 @@
 -- Faults of a configuration, and the text of each kind.
-use Rattle.std.specs.Prelude.{ℕ, ◌+◌, ◌-◌, ◌^◌, min, List, ◌++◌, codes, Result, Err}
+use Rattle.std.specs.Prelude.{ℕ, ◌+◌, ◌-◌, ◌^◌, min, List, ◌++◌, codes}
 use Rattle.bk_asm_text.specs.Fault as assembly
 use Rattle.bk_image.specs.Texts.{field_text}
 use Rattle.bk_conf.specs.declared.fault.BuildFault.{BuildFault}

@@ -1,5 +1,5 @@
 -- The fields of a line: which text a field is, and what it says.
-use Rattle.std.specs.Prelude.{ℕ, ◌+◌, ◌-◌, ◌*◌, ◌==◌, nat_le, nat_lt, Bool, true, false, not, ◌&&◌, ◌||◌, if◌then◌else◌, List, [], ◌∷◌, ◌++◌, length, drop, fold}
+use Rattle.std.specs.Prelude.{ℕ, ◌+◌, ◌-◌, ◌*◌, ◌==◌, nat_le, nat_lt, Bool, true, false, not, ◌&&◌, ◌||◌, if◌then◌else◌, List, [], ◌∷◌, length, drop, fold}
 use Rattle.std.specs.Prelude.{bytes_eq, codes, Result, Ok, Err}
 use Rattle.std.specs.List.{list_all, slice_split}
 use Rattle.bk_base.specs.Faults.{◌>>=◌}

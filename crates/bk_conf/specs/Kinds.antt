@@ -12,7 +12,6 @@ use Rattle.bk_conf.specs.declared.fault.BuildKind.{BuildKind}
 use Rattle.bk_conf.specs.declared.fault.BuildKind.TheVariants as kind
 use Rattle.bk_conf.specs.declared.line.Line.{Line}
 use Rattle.bk_conf.specs.declared.line.Line.TheVariants as line
-use Rattle.bk_conf.specs.declared.line.SubjectLine.{SubjectLine}
 use Rattle.bk_conf.specs.Limits.{largest_byte, largest_word}
 use Rattle.bk_conf.specs.Lines.{Text, at}
 use Rattle.bk_conf.specs.Fields.{is_decimal, is_octal, is_path_text, are_modes, is_mode, is_space, is_name, decimal_to, word_in, path_in, modes_in, mode_in}

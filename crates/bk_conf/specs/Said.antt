@@ -1,13 +1,11 @@
 -- What the lines of a configuration have said.
-use Rattle.std.specs.Prelude.{ℕ, ◌+◌, nat_lt, Bool, List, [], ◌∷◌, ◌++◌, length, Option, None, is_some}
-use Rattle.std.specs.BTreeMap.{insert_entry, is_at}
+use Rattle.std.specs.Prelude.{ℕ, nat_lt, Bool, List, [], length, Option, None, is_some}
+use Rattle.std.specs.BTreeMap.{is_at}
 use Rattle.std.specs.Map.{lookup}
 use Rattle.std.specs.Ordering.{nat_cmp, ordering_then}
 use Rattle.std.specs.Cmp.Lexicographic.{slice_cmp}
 use Rattle.std.specs.declared.cmp.Ordering.{Ordering}
-use Rattle.bk_asm.specs.declared.Program.{Program}
 use Rattle.bk_level.specs.Levels.{Level}
-use Rattle.bk_object.specs.declared.facts.Facts.{Facts}
 use Rattle.bk_object.specs.declared.modes.Modes.{Modes}
 use Rattle.bk_path.specs.Paths.{Path, path_cmp}
 use Rattle.bk_conf.specs.declared.line.SubjectLine.{SubjectLine}

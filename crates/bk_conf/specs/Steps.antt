@@ -18,7 +18,6 @@ use Rattle.bk_conf.specs.declared.fault.BuildKind.TheVariants as kind
 use Rattle.bk_conf.specs.declared.line.Line.{Line}
 use Rattle.bk_conf.specs.declared.line.Line.TheVariants as line
 use Rattle.bk_conf.specs.declared.line.SubjectLine.{SubjectLine}
-use Rattle.bk_conf.specs.declared.said.Mention.{Mention}
 use Rattle.bk_conf.specs.declared.said.Mention.TheVariants as mention
 use Rattle.bk_conf.specs.declared.said.Mentioned.{Mentioned}
 use Rattle.bk_conf.specs.Fault.{fault_at, line_after}

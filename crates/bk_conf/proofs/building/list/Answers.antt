@@ -1,4 +1,4 @@
-use Rattle.std.proofs.Common.{◌≡◌, Ok, ap, sym, ◌∙◌}
+use Rattle.std.proofs.Common.{Ok, ap, sym, ◌∙◌}
 use Rattle.bk_conf.specs.Built.{listings_of}
 use Rattle.bk_conf.specs.Views.{said_of}
 use Rattle.bk_conf.proofs.Images.{listing_ok}

@@ -1,4 +1,4 @@
-use Rattle.std.proofs.Common.{◌≡◌, sym, ◌∙◌}
+use Rattle.std.proofs.Common.{sym, ◌∙◌}
 use Rattle.bk_conf.proofs.Fields.{subjects_stop}
 use Rattle.bk_conf.proofs.kind.subjects_in.Goals as goal
 

@@ -1,6 +1,5 @@
 use Rattle.std.proofs.Common.{◌≡◌, ◌≤◌, ◌∷◌, true, length, ap, sym, ◌∙◌, refl, arith}
-use Rattle.std.specs.Prelude.{List}
-use Rattle.bk_conf.specs.Lines.{Text, ends, fields_of}
+use Rattle.bk_conf.specs.Lines.{ends, fields_of}
 use Rattle.bk_conf.specs.Views.{lines_left, texts}
 use Rattle.bk_conf.proofs.Bodies.{passed_end, passed_none, passed_shorter}
 use Rattle.bk_conf.proofs.program.body_of.Goals as goal

@@ -1,5 +1,4 @@
-use Rattle.std.proofs.Common.{◌≡◌, ap, ◌∙◌}
-use Rattle.bk_conf.specs.Said.{Said}
+use Rattle.std.proofs.Common.{ap, ◌∙◌}
 use Rattle.bk_conf.specs.Views.{said_of, words_of}
 use Rattle.bk_conf.proofs.Words.{insert_words}
 use Rattle.bk_conf.proofs.said.Said.keep_words.Goals as goal
