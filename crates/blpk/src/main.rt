@@ -3,13 +3,13 @@
 //!
 //! Model: `specs/Words.antt` (the words), `specs/Made.antt` (what each command makes of what it reads: `made_of`),
 //! `specs/Lines.antt` (the lines), `specs/Causes.antt` (what each status says), `specs/Outcomes.antt` (what the command came to)
-//! and `specs/Statuses.antt` (the numbers), over `report_of` of `bk_system`, `image_of` of `bk_image`, `script_of` of
-//! `bk_script`, `built` and `listing_of` of `bk_conf`.
+//! and `specs/Statuses.antt` (the numbers), over `report_of` of `bk_system`, `image_of` of `bk_image`, `script_of` of `bk_script`,
+//! and `built` and `listing_of` of `bk_conf`.
 //! Calls: `run_blpk`; `Status::number`, `Status::exit_code`.
 //! Proved: with status Ok all input that the command asks for was read, and exactly what it makes of it went out: the report of
 //! the abstract run, isolated for every level, the bytes of a configuration's image, its listing, or the last line of a generated
-//! run's; every other status has its cause and its line; a failed write leaves a front of what would have gone out; no failed
-//! read or write is passed over. The exit code has the status's number.
+//! run's; every other status has its cause and its line; a failed write leaves a front of what is written; no failed read or
+//! write is passed over. The exit code has the status's number.
 //! Tested: `main`: the words, the standard streams and the exit status of the built program.
 //! Neither: want of memory while the words are fetched.
 //! Stands on: `arrayvec`, `bk_asm_text`, `bk_base`, `bk_conf`, `bk_fixture`, `bk_gen`, `bk_image`, `bk_kernel`, `bk_laws`,

@@ -25,9 +25,10 @@ pub fn run_blpk<I: Source, O: Sink, E: Sink>(
     out: &mut O,
     err: &mut E,
 ) -> Status
-    // The words name a command, which has read what it reads (`run` all that there is, `gen` nothing), and the output took exactly
-    // what the command makes of it: of an image and a script, `run` makes the report of their run, and `gen` the last line of the
-    // report of the run that is generated from its number.
+    // The words name a command, which has read what it reads (all that there is, but for `gen`, which reads nothing), and the
+    // output took exactly what the command makes of it: `run` makes the report of the run of an image and a script, `build` the
+    // bytes of the image of a configuration, `list` its listing, and `gen` the last line of the report of the run that is generated
+    // from its number.
     ensures ok { result ≡ Status.Ok → IsRead (texts words.now.items) (I.state input.old) (I.state input.new)
         × Asked (texts words.now.items) (I.state input.old) (I.state input.new)
         (Made (Took (O.taken out.old) (O.taken out.new) (O.faults out.old) (O.faults out.new))) }
