@@ -68,7 +68,7 @@ pub fn register(text: &[u8]) -> Option<(u8, &[u8])>
 }
 
 /// What a run stands for that is an instruction's word. None exactly where it is none.
-#[tactic(auto, using(crate::proofs::Runs::mnemonic_of_long), unfolding(crate::specs::Names::mnemonic_of))]
+#[tactic(auto, unfolding(crate::specs::Names::mnemonic_of))]
 pub fn mnemonic(run: &[u8]) -> Option<Mnemonic>
     ensures { result ≡ mnemonic_of run.now }
 {
