@@ -21,6 +21,21 @@ use Rattle.bk_kernel.specs.Tables.{HasLoaded, RanNothing}
 use Rattle.bk_kernel.proofs.Kept.{found-process}
 use Rattle.bk_kernel.proofs.Placed.{set-length, set-there}
 
+-- ---- what the pages are made of
+
+page-alike : (store new : Stored) (subject window : ℕ) → ((path : Path) → extent_in new path ≡ extent_in store path) → new.access ≡ store.access →
+    (o : Option (Option Path)) → page_for store subject window o ≡ page_for new subject window o
+page-alike store new subject window extents access None = refl
+page-alike store new subject window extents access (Some None) = refl
+page-alike store new subject window extents access (Some (Some path)) = λ i.
+    page_over (sym (extents path) i) (rights_held (record store { access = sym access i }) subject window path)
+
+-- the pages of a subject are the same where each segment stands where it stood, and the same is held
+pub pages-alike : (store new : Stored) (subject : ℕ) (windows : List (Option Path)) → ((path : Path) → extent_in new path ≡ extent_in store path) → new.access ≡ store.access →
+    pages_for store subject windows ≡ pages_for new subject windows
+unfolding pages_for
+pages-alike store new subject windows extents access = λ i. map (λ window. page-alike store new subject window extents access (slice_get windows window) i) (range_with_len 0 32)
+
 -- ---- a byte arrives
 
 typing-extent : (line byte : ℕ) (o : Option Entry) → extent_at (option_map (typing line byte) o) ≡ extent_at o
@@ -30,15 +45,6 @@ typing-extent line byte (Some e) = refl
 typed-extent : (store : Stored) (line byte : ℕ) (path : Path) → extent_in (with_typed line byte store) path ≡ extent_in store path
 typed-extent store line byte path = ap extent_at (get-map_values path_cmp (typing line byte) store.objects path) ∙ typing-extent line byte (finite.get store.objects path)
 
-typed-page : (store : Stored) (line byte subject window : ℕ) (o : Option (Option Path)) → page_for (with_typed line byte store) subject window o ≡ page_for store subject window o
-typed-page store line byte subject window None = refl
-typed-page store line byte subject window (Some None) = refl
-typed-page store line byte subject window (Some (Some path)) = ap (λ extent. page_over extent (rights_held store subject window path)) (typed-extent store line byte path)
-
-typed-pages : (store : Stored) (line byte subject : ℕ) (windows : List (Option Path)) → pages_for (with_typed line byte store) subject windows ≡ pages_for store subject windows
-unfolding pages_for
-typed-pages store line byte subject windows = λ i. map (λ window. typed-page store line byte subject window (slice_get windows window) i) (range_with_len 0 32)
-
 -- the process is still loaded
 pub typed-loaded : (processes : List Process) (store new_store : Stored) (machine : MachineState) (loaded line byte : ℕ) → HasLoaded processes store machine loaded → new_store ≡ with_typed line byte store → HasLoaded processes new_store machine loaded
 typed-loaded processes store new_store machine loaded line byte has becomes = record {
@@ -47,7 +53,7 @@ typed-loaded processes store new_store machine loaded line byte has becomes = re
     registers = old.registers;
     outside = old.outside;
     vectors = old.vectors;
-    pages = old.pages ∙ sym (typed-pages store line byte loaded p.windows) ∙ ap (λ (s : Stored). pages_for s loaded p.windows) (sym becomes);
+    pages = old.pages ∙ pages-alike store (with_typed line byte store) loaded p.windows (typed-extent store line byte) refl ∙ ap (λ (s : Stored). pages_for s loaded p.windows) (sym becomes);
   };
 }
 

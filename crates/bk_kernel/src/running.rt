@@ -10,12 +10,13 @@ ghost use Rattle.bk_state.specs.Answers.{called};
 ghost use Rattle.bk_store.specs.Stands.{StandsFor};
 ghost use Rattle.bk_calls.specs.Made.{answer_of, line_byte};
 ghost use Rattle.bk_system.specs.Turn.{fault_number, is_reflected};
+ghost use Rattle.bk_pages.specs.Pages.{pages_for};
 ghost use Rattle.bk_pages.specs.StandsFor.{IsLoaded, kept_in};
 ghost use Rattle.bk_kernel.specs.Instructions.{HasRun, WentOn};
 ghost use Rattle.bk_kernel.specs.Tables.{interrupted, served, RanNothing};
 
 use crate::tables::Tables;
-use bk_calls::{Caller, Reply, call};
+use bk_calls::{Caller, Reply, call, changes_pages};
 use bk_exec::Event;
 use bk_machine::{Machine, law_vectors};
 use bk_pages::{Faulted, fault, run, set_pages};
@@ -73,6 +74,18 @@ fn save(machine: &Machine, process: &mut Process)
     process.registers = machine.process_regs();
 }
 
+// Sets the pages of the subject, where what they show may have changed since they were set.
+fn set_changed(machine: &mut Machine, store: &Store, subject: u8, process: &Process, changed: bool)
+    requires subject { subject < most_subjects }
+    requires kept { changed ≡ false → machine.old.pages.registers ≡ pages_for store.now subject process.now.windows }
+    ensures pages { machine.new.pages.registers ≡ pages_for store.now subject process.now.windows }
+    ensures rest { machine.new ≡ record machine.old { pages = machine.new.pages } }
+{
+    if changed {
+        set_pages(machine, store, subject, &process.windows);
+    }
+}
+
 impl Tables {
     /// The subject is loaded, if another one was. No instruction runs.
     pub(crate) fn load(&mut self, subject: u8)
@@ -112,7 +125,8 @@ impl Tables {
         self.processes[self.loaded as usize].registers.general
     }
 
-    /// A kernel call of the loaded subject, by the registers of its process. Its pages are set anew.
+    /// A kernel call of the loaded subject, by the registers of its process. Its pages are set anew where the call may have
+    /// changed what one of them shows.
     pub(crate) fn call(&mut self, number: u8) -> Reply
         ensures state { (p : Process) → process_of self.old.state self.old.loaded ≡ Some p → self.new.state ≡ served self.old.state self.old.loaded (called self.old.state self.old.loaded p number) }
         ensures answer { (p : Process) → process_of self.old.state self.old.loaded ≡ Some p → result.answer ≡ answer_of (called self.old.state self.old.loaded p number).cause }
@@ -133,7 +147,8 @@ impl Tables {
         let reply = call(&mut self.store, core, process, &caller, number);
         law_vectors();
         self.machine.set_process(&process.registers);
-        set_pages(&mut self.machine, &self.store, subject, &process.windows);
+        let changed = changes_pages(number, reply.answer);
+        set_changed(&mut self.machine, &self.store, subject, process, changed);
         reply
     }
 
