@@ -9,7 +9,7 @@
 //! Proved: a text is assembled exactly into the program that it is, or refused exactly with its first fault; in a program each
 //! statement stands behind those before it and has as many bytes as its size says, each label and each assigned name has one value,
 //! and the words are those of the statements by these values; a listing is exactly the program's.
-//! Tested: programs worked by hand, each kind of fault at both sides of its limit, faults of one line and of two.
+//! Tested: in `bk_suite`, programs worked by hand, each kind of fault at both sides of its limit, faults of one line and of two.
 //! Neither: how much memory and time is taken.
 //! Stands on: `arrayvec`, `bk_asm_text`, `bk_base`, `bk_expr`, `bk_isa`, `bk_report`, `bk_space`.
 #![tactic(auto)]
@@ -29,6 +29,3 @@ pub use bk_asm_text::{AsmFault, AsmKind, AsmStop};
 pub use law::{law_assembled, law_example_of_pieces, law_example_of_statements};
 pub use lines::listing;
 pub use program::{Program, Symbol, Symbols};
-
-#[cfg(test)]
-mod tests;

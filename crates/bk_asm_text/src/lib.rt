@@ -8,7 +8,7 @@
 //! Calls: `split`, `split_front`; `AsmKind::text`. (`law_first_fault` and the `law_example_of_..` are empty functions, for their contracts.)
 //! Proved: a text is split exactly into what its lines say, one statement a line, and refused exactly at its first line outside
 //! the grammar; an operand is what the first row of addressing says that reads it whole.
-//! Tested: that a text with every form is read at all, and the line of the fault of texts with several.
+//! Tested: in `bk_suite`, that a text with every form is read at all, and the line of the fault of texts with several.
 //! Neither: how much memory is taken.
 //! Stands on: `bk_base`, `bk_expr`, `bk_isa`.
 #![tactic(auto)]
@@ -31,6 +31,3 @@ pub use law::{
 pub use operand::Operand;
 pub use splitting::{Front, law_first_fault, split, split_front};
 pub use statement::{Body, Exprs, Label, Labels, Statement, Statements};
-
-#[cfg(test)]
-mod tests;

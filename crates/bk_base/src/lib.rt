@@ -10,7 +10,7 @@
 //! Proved: a read gives the next bytes and a write takes the first ones; one that fails has raised the count of faults, and one
 //! that doesn't has left it as it was; the sources and sinks in memory fail exactly where they are told to. A source's history
 //! is the bytes of its reads, whether it tells what is left or not. Of the formats, what the example shows.
-//! Tested: that `StdSource` and `StdSink` ever succeed, and their answers at a directory and at a full device.
+//! Tested: in `bk_suite`, that `StdSource` and `StdSink` ever succeed, and their answers at a directory and at a full device.
 //! Neither: what a file or a terminal gave or took.
 //! Stands on: nothing.
 #![tactic(auto)]
@@ -30,8 +30,6 @@ mod std_sink;
 mod std_source;
 mod steady_source;
 mod stop;
-#[cfg(test)]
-mod tests;
 
 pub use all::{ReadStop, read_all, write_all};
 pub use buf::Buf;

@@ -8,7 +8,7 @@
 //! Proved: a call makes exactly what the definition of its number gives: the first check that fails and its answer, or the
 //! change of objects, accesses and process, the values in the registers, and the byte sent; core below block 64 stays. Where
 //! `changes_pages` is false, the extents, what is held and the caller's windows stay.
-//! Tested: worked calls, whose values the definitions give and no clause spells out, one after another on one store.
+//! Tested: in `bk_suite`, worked calls, whose values the definitions give and no clause spells out, one after another on one store.
 //! Neither: nothing.
 //! Stands on: `bitflags`, `bk_base`, `bk_core`, `bk_frames`, `bk_level`, `bk_object`, `bk_path`, `bk_process`, `bk_queue`, `bk_quota`, `bk_rules`, `bk_space`, `bk_state`, `bk_store`, `bk_tree`.
 #![tactic(auto)]
@@ -28,8 +28,6 @@ mod reply;
 mod row_calls;
 mod segment_calls;
 mod telling_calls;
-#[cfg(test)]
-mod tests;
 mod tree_calls;
 
 pub use caller::Caller;

@@ -8,7 +8,7 @@
 //! Calls: `build`, `list`; `BuildKind::text`.
 //! Proved: the image and the listing are exactly those of the text, or the refusal is exactly its first fault; the image's bytes
 //! are its spelling, and are read again as the image; it passes all checks of an image.
-//! Tested: the sample, and the first fault of configurations at both sides of each limit.
+//! Tested: in `bk_suite`, the sample, and the first fault of configurations at both sides of each limit.
 //! Neither: how much memory is taken.
 //! Stands on: `arrayvec`, `bitflags`, `bk_asm`, `bk_asm_text`, `bk_base`, `bk_image`, `bk_level`, `bk_object`, `bk_path`,
 //! `bk_process`, `bk_report`, `bk_space`, `bk_state`.
@@ -28,6 +28,3 @@ mod text;
 
 pub use building::{build, list};
 pub use fault::{BuildFault, BuildKind, BuildStop};
-
-#[cfg(test)]
-mod tests;

@@ -9,7 +9,7 @@
 //! `local_label`, `number`. (`law_grammar` and the examples are empty functions, for their contracts.)
 //! Proved: an expression is read exactly where the grammar has one at the front of the text, as its tree and with the text
 //! after it; what it comes to is by whole numbers modulo 65,536, undefined before divide; each run is what the definitions say.
-//! Tested: a million signs, brackets and terms.
+//! Tested: in `bk_suite`, a million signs, brackets and terms.
 //! Neither: how much of the host's stack is used.
 //! Stands on: `bk_base`, `bk_isa`.
 #![tactic(auto)]
@@ -30,6 +30,3 @@ pub use text::{past_blanks, run, sign};
 pub use tree::{Expr, ExprOp};
 pub use word::{is_name, local_label, mnemonic, name, number, register};
 pub use worked::{Names, Worked, value_of};
-
-#[cfg(test)]
-mod tests;

@@ -7,7 +7,7 @@
 //! Calls: `generate`. (`law_example` is an empty function, for its contract.)
 //! Proved: what is made is the image and the script that the definitions give; the image is accepted, its state is secure, and
 //! its bytes are read as it again; the script is one for it; and what the example shows.
-//! Tested: lengths and sums of the image's bytes and of the scripts of 18 numbers, computed outside.
+//! Tested: in `bk_suite`, lengths and sums of the image's bytes and of the scripts of 18 numbers, computed outside.
 //! Neither: nothing.
 //! Stands on: `bitflags`, `bk_base`, `bk_image`, `bk_level`, `bk_object`, `bk_path`, `bk_process`, `bk_quota`, `bk_script`,
 //! `bk_space`, `bk_state`, `bk_system`.
@@ -18,8 +18,6 @@ mod laws;
 mod object;
 mod row;
 mod subject;
-#[cfg(test)]
-mod tests;
 mod typing;
 
 pub use bk_state::Image;

@@ -9,9 +9,9 @@
 //! Proved: `read_image` gives exactly the image that the first bytes spell and their number, or exactly the first fault and
 //! its place; what is read passed all checks, and its state is secure; `write_image` gives exactly the spelling, or exactly
 //! why there is none; no image's bytes are a proper prefix of another's.
-//! Tested: which bytes the sample has, which fault spoilt ones have, and that `long` comes before `end`.
+//! Tested: in `bk_suite`, which bytes the sample has, which fault spoilt ones have, and that `long` comes before `end`.
 //! Neither: nothing.
-//! Stands on: `bitflags`, `bk_base`, `bk_fixture`, `bk_level`, `bk_object`, `bk_path`, `bk_process`, `bk_quota`, `bk_space`,
+//! Stands on: `bitflags`, `bk_base`, `bk_level`, `bk_object`, `bk_path`, `bk_process`, `bk_quota`, `bk_space`,
 //! `bk_state`, `byteorder`.
 #![tactic(auto)]
 
@@ -31,8 +31,6 @@ mod rest;
 mod row;
 mod schedule;
 mod subject;
-#[cfg(test)]
-mod tests;
 mod window;
 mod writing;
 

@@ -9,9 +9,9 @@
 //! instruction of the machine, which tells it, and between turns the machine stands for the state; a slot writes the text of its
 //! items, and where a write fails the turn of that line has been made, no further one, and the slot hasn't ended; after `boot`
 //! no call takes memory.
-//! Tested: that `boot` succeeds, and reports that were worked out by hand from the tables of processor, calls and report.
+//! Tested: in `bk_suite`, that `boot` succeeds, and reports that were worked out by hand from the tables of processor, calls and report.
 //! Neither: nothing.
-//! Stands on: `arrayvec`, `bk_base`, `bk_calls`, `bk_core`, `bk_exec`, `bk_fixture`, `bk_frames`, `bk_image`, `bk_load`,
+//! Stands on: `arrayvec`, `bk_base`, `bk_calls`, `bk_core`, `bk_exec`, `bk_frames`, `bk_image`, `bk_load`,
 //! `bk_machine`, `bk_object`, `bk_pages`, `bk_path`, `bk_process`, `bk_report`, `bk_space`, `bk_state`, `bk_store`, `bk_system`.
 #![tactic(auto)]
 
@@ -19,8 +19,6 @@ mod boot;
 mod kernel;
 mod running;
 mod tables;
-#[cfg(test)]
-mod tests;
 mod turn;
 
 pub use kernel::{Kernel, Summary};

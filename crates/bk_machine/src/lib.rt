@@ -9,7 +9,7 @@
 //! Proved: each reference is answered by the registers of its page alone, and a write leaves the kernel's blocks; `run_one`
 //! is the defined instruction over the pages that registers and core give, and after a call or a fault the trap sequence;
 //! `last` and `runs` tell of it; each other call changes its own part alone.
-//! Tested: the calls one after another, with an EMT, on octal words; pages at the bounds of their registers.
+//! Tested: in `bk_suite`, the calls one after another, with an EMT, on octal words; pages at the bounds of their registers.
 //! Neither: nothing.
 //! Stands on: `bk_base`, `bk_core`, `bk_cpu`, `bk_exec`, `bk_mmu`, `bk_object`, `bk_space`.
 //!
@@ -24,8 +24,6 @@ mod machine;
 mod paged;
 mod ran;
 mod registers;
-#[cfg(test)]
-mod tests;
 mod trap;
 mod vectors;
 

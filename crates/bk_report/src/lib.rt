@@ -6,7 +6,7 @@
 //! `law_example`.
 //! Proved: the line of an item is its text, an item is read exactly where its line stands in front, and the line records
 //! of a report are those of its items that are bytes on these lines.
-//! Tested: a whole line of each kind, and the records of a report.
+//! Tested: in `bk_suite`, a whole line of each kind, and the records of a report.
 //! Neither: nothing.
 //! Stands on: `arrayvec`, `bk_base`, `itoa`.
 #![tactic(auto)]
@@ -24,6 +24,3 @@ pub use parts::cut;
 pub use printing::{print, put, put_decimal, put_octal, put_word};
 pub use reading::read_item;
 pub use records::line_records;
-
-#[cfg(test)]
-mod tests;

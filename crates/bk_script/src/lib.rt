@@ -6,9 +6,9 @@
 //! Calls: `read_script`; `ScriptKind::text`; `law_read_again`, `law_example`.
 //! Proved: a script is read exactly as its bytes spell it, and refused exactly with its first fault; what is read holds of
 //! a script, and a script's text is read again.
-//! Tested: which fault is the first of texts with several, and what is read at the limits.
+//! Tested: in `bk_suite`, which fault is the first of texts with several, and what is read at the limits.
 //! Neither: nothing.
-//! Stands on: `bk_base`, `bk_fixture`, `bk_report`, `bk_state`, `bk_system`, `hex`.
+//! Stands on: `bk_base`, `bk_report`, `bk_state`, `bk_system`, `hex`.
 #![tactic(auto)]
 
 mod fault;
@@ -21,6 +21,3 @@ pub use bk_system::{Script, TypedAt, TypedList};
 pub use fault::{ScriptFault, ScriptKind, ScriptStop};
 pub use laws::{law_example, law_read_again};
 pub use reading::read_script;
-
-#[cfg(test)]
-mod tests;
