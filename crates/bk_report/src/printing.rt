@@ -1,9 +1,11 @@
-ghost use Rattle.std.specs.Prelude.{◌≡◌, ◌+◌, ◌*◌, ◌≤◌, ◌<◌, ◌++◌, ◌^◌, length, codes, decimal};
+ghost use Rattle.std.specs.Prelude.{◌≡◌, ◌+◌, ◌*◌, ◌/◌, ◌%◌, ◌≤◌, ◌<◌, ◌∷◌, [], ◌++◌, ◌^◌, length, codes, decimal, OnOk, OnErr};
 ghost use Rattle.arrayvec.specs.ArrayVec.{array_vec_len};
+ghost use Rattle.bk_base.specs.Written.{Took, Broke};
 ghost use Rattle.bk_report.specs.Text.{text_of, octal3, octal6, words_of, answer_of, how_of, IsAnswered};
 
 use crate::item::ReportItem;
 use arrayvec::ArrayVec;
+use bk_base::{Failed, Sink, write_all};
 use itoa::{Buffer, Integer};
 
 /// Appends a text to a line.
@@ -34,23 +36,37 @@ pub fn put_octal(out: &mut ArrayVec<u8, 96>, n: u8)
     put(out, &[48 + n / 64, 48 + n / 8 % 8, 48 + n % 8]);
 }
 
+/// The two octal digits of each number below 64.
+static PAIRS: [u8; 128] =
+    *b"00010203040506071011121314151617202122232425262730313233343536374041424344454647505152535455565760616263646566677071727374757677";
+
+#[inline(always)]
+fn pair(n: u16) -> [u8; 2]
+    requires { n < 64 }
+    ensures { result ≡ (48 + n / 8) ∷ (48 + n % 8) ∷ [] }
+{
+    let from = n as usize * 2;
+    [PAIRS[from], PAIRS[from + 1]]
+}
+
+/// The six octal digits of a word.
+#[inline(always)]
+fn digits(n: u16) -> [u8; 6]
+    ensures { result ≡ octal6 n }
+{
+    let high = pair(n / 4096);
+    let middle = pair(n / 64 % 64);
+    let low = pair(n % 64);
+    [high[0], high[1], middle[0], middle[1], low[0], low[1]]
+}
+
 /// Appends a word as six octal digits.
 pub fn put_word(out: &mut ArrayVec<u8, 96>, n: u16)
     requires { array_vec_len out.old + 6 ≤ 96 }
     ensures items { out.new.items ≡ out.old.items ++ octal6 n }
     ensures len { array_vec_len out.new ≡ array_vec_len out.old + 6 }
 {
-    put(
-        out,
-        &[
-            48 + (n / 32768) as u8,
-            48 + (n / 4096 % 8) as u8,
-            48 + (n / 512 % 8) as u8,
-            48 + (n / 64 % 8) as u8,
-            48 + (n / 8 % 8) as u8,
-            48 + (n % 8) as u8,
-        ],
-    );
+    put(out, &digits(n));
 }
 
 /// Appends a space and a number in decimal.
@@ -61,6 +77,20 @@ fn put_count<I: Integer>(out: &mut ArrayVec<u8, 96>, n: I)
 {
     put(out, b" ");
     put_decimal(out, n);
+}
+
+/// Appends a space and a number in decimal, which mostly has one digit.
+#[inline(always)]
+fn put_number(out: &mut ArrayVec<u8, 96>, n: u32)
+    requires { array_vec_len out.old + 11 ≤ 96 }
+    ensures items { out.new.items ≡ out.old.items ++ codes " " ++ decimal n }
+    ensures len { array_vec_len out.new ≤ array_vec_len out.old + 11 }
+{
+    if n < 10 {
+        put(out, &[b' ', 48 + n as u8]);
+    } else {
+        put_count(out, n);
+    }
 }
 
 /// Appends the six words, each after a space.
@@ -75,30 +105,38 @@ fn put_words(out: &mut ArrayVec<u8, 96>, words: &[u16; 6])
     }
 }
 
-fn answer_text(answer: u8) -> &'static [u8]
-    ensures text { result.now ≡ answer_of answer }
-    ensures short { length result.now ≤ 3 }
+/// Appends a space and the word for an answer.
+fn put_answer(out: &mut ArrayVec<u8, 96>, answer: u8)
+    requires { array_vec_len out.old + 4 ≤ 96 }
+    ensures items { out.new.items ≡ out.old.items ++ codes " " ++ answer_of answer }
+    ensures len { array_vec_len out.new ≤ array_vec_len out.old + 4 }
 {
     match answer {
-        0 => b"yes",
-        1 => b"no",
-        _ => b"?",
+        0 => put(out, b" yes"),
+        1 => put(out, b" no"),
+        _ => put(out, b" ?"),
     }
 }
 
-fn how_text(entered: bool) -> &'static [u8]
-    ensures text { result.now ≡ how_of entered }
-    ensures short { length result.now ≤ 5 }
+/// Appends a space and the word for what became of a process.
+fn put_how(out: &mut ArrayVec<u8, 96>, entered: bool)
+    requires { array_vec_len out.old + 6 ≤ 96 }
+    ensures items { out.new.items ≡ out.old.items ++ codes " " ++ how_of entered }
+    ensures len { array_vec_len out.new ≤ array_vec_len out.old + 6 }
 {
-    if entered { b"enter" } else { b"stop" }
+    if entered {
+        put(out, b" enter");
+    } else {
+        put(out, b" stop");
+    }
 }
 
-/// The line of an item, with its LF.
-pub fn print(item: &ReportItem) -> ArrayVec<u8, 96>
-    requires { IsAnswered item.now }
-    ensures { result.items ≡ text_of item.now }
+/// Prints the line of an item, with its LF, on a line that is empty.
+pub fn print_on(item: &ReportItem, out: &mut ArrayVec<u8, 96>)
+    requires answered { IsAnswered item.now }
+    requires empty { array_vec_len out.old ≡ 0 }
+    ensures { out.new.items ≡ text_of item.now }
 {
-    let mut out = ArrayVec::new();
     match *item {
         ReportItem::Call {
             slot,
@@ -109,16 +147,15 @@ pub fn print(item: &ReportItem) -> ArrayVec<u8, 96>
             answer,
             cause,
         } => {
-            put(&mut out, b"C");
-            put_count(&mut out, slot);
-            put_count(&mut out, turn);
-            put_count(&mut out, subject);
-            put(&mut out, b" ");
-            put_octal(&mut out, number);
-            put_words(&mut out, &regs);
-            put(&mut out, b" ");
-            put(&mut out, answer_text(answer));
-            put_count(&mut out, cause);
+            put(out, b"C");
+            put_number(out, slot);
+            put_number(out, u32::from(turn));
+            put_number(out, u32::from(subject));
+            put(out, b" ");
+            put_octal(out, number);
+            put_words(out, &regs);
+            put_answer(out, answer);
+            put_number(out, u32::from(cause));
         }
         ReportItem::Fault {
             slot,
@@ -128,15 +165,14 @@ pub fn print(item: &ReportItem) -> ArrayVec<u8, 96>
             pc,
             entered,
         } => {
-            put(&mut out, b"F");
-            put_count(&mut out, slot);
-            put_count(&mut out, turn);
-            put_count(&mut out, subject);
-            put_count(&mut out, cause);
-            put(&mut out, b" ");
-            put_word(&mut out, pc);
-            put(&mut out, b" ");
-            put(&mut out, how_text(entered));
+            put(out, b"F");
+            put_number(out, slot);
+            put_number(out, u32::from(turn));
+            put_number(out, u32::from(subject));
+            put_number(out, u32::from(cause));
+            put(out, b" ");
+            put_word(out, pc);
+            put_how(out, entered);
         }
         ReportItem::Byte {
             slot,
@@ -144,12 +180,12 @@ pub fn print(item: &ReportItem) -> ArrayVec<u8, 96>
             line,
             byte,
         } => {
-            put(&mut out, b"L");
-            put_count(&mut out, slot);
-            put_count(&mut out, turn);
-            put_count(&mut out, line);
-            put(&mut out, b" ");
-            put_octal(&mut out, byte);
+            put(out, b"L");
+            put_number(out, slot);
+            put_number(out, u32::from(turn));
+            put_number(out, u32::from(line));
+            put(out, b" ");
+            put_octal(out, byte);
         }
         ReportItem::End {
             slots,
@@ -157,13 +193,33 @@ pub fn print(item: &ReportItem) -> ArrayVec<u8, 96>
             references,
             calls,
         } => {
-            put(&mut out, b"END");
-            put_count(&mut out, slots);
-            put_count(&mut out, turns);
-            put_count(&mut out, references);
-            put_count(&mut out, calls);
+            put(out, b"END");
+            put_count(out, slots);
+            put_count(out, turns);
+            put_count(out, references);
+            put_count(out, calls);
         }
     }
-    put(&mut out, b"\n");
+    put(out, b"\n");
+}
+
+/// The line of an item, with its LF.
+pub fn print(item: &ReportItem) -> ArrayVec<u8, 96>
+    requires { IsAnswered item.now }
+    ensures { result.items ≡ text_of item.now }
+{
+    let mut out = ArrayVec::new();
+    print_on(item, &mut out);
     out
+}
+
+/// Writes the line of an item to a sink.
+pub fn write_line<O: Sink>(out: &mut O, item: &ReportItem) -> Result<(), Failed>
+    requires { IsAnswered item.now }
+    ensures written { OnOk result (Took (O.taken out.old) (O.taken out.new) (O.faults out.old) (O.faults out.new) (text_of item.now)) }
+    ensures failed { OnErr result (Broke (O.taken out.old) (O.taken out.new) (O.faults out.old) (O.faults out.new) (text_of item.now)) }
+{
+    let mut line = ArrayVec::new();
+    print_on(item, &mut line);
+    write_all(out, line.as_slice())
 }
