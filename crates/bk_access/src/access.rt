@@ -14,7 +14,7 @@ use std::marker::Model;
 /// The current access set (MTR-2997): which subject holds which object by which modes now. An object is named by its
 /// slot in the table of objects, a subject by its number, below `MOST_SUBJECTS`.
 ///
-/// It keeps four bits for each subject and slot, 16 bytes a slot. A clause sees the map from subject and slot to modes, and
+/// It keeps four bits for each subject and slot, 32 bytes a slot. A clause sees the map from subject and slot to modes, and
 /// the number that all slots are below.
 #[derive(Drop)]
 pub struct Access {

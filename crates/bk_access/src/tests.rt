@@ -11,12 +11,12 @@ use std::mem::size_of;
 fn holds_what_was_added(rt: HostRuntime) -> Result<(), NoMemory> {
     let slot = Slot { n: 3903 };
     let mut access = Access::reserve(rt.alloc(), 3904)?;
-    assert_eq!(rt; access.modes(31, slot).bits(), 0);
-    access.add(31, slot, Modes::R);
-    access.add(31, slot, Modes::W);
-    assert_eq!(rt; access.modes(31, slot).bits(), 5);
-    access.remove(31, slot, Modes::R);
-    assert_eq!(rt; access.modes(31, slot).bits(), 4);
+    assert_eq!(rt; access.modes(63, slot).bits(), 0);
+    access.add(63, slot, Modes::R);
+    access.add(63, slot, Modes::W);
+    assert_eq!(rt; access.modes(63, slot).bits(), 5);
+    access.remove(63, slot, Modes::R);
+    assert_eq!(rt; access.modes(63, slot).bits(), 4);
     Ok(())
 }
 
@@ -39,8 +39,8 @@ fn keeps_subjects_and_slots_apart(rt: HostRuntime) -> Result<(), NoMemory> {
     Ok(())
 }
 
-// Four bits for each of 32 subjects: 16 bytes a slot, 62,464 for 3,904 slots.
+// Four bits for each of 64 subjects: 32 bytes a slot, 124,928 for 3,904 slots.
 #[test]
-fn takes_sixteen_bytes_a_slot(rt: HostRuntime) {
-    assert_eq!(rt; size_of::<Row>(), 16);
+fn takes_32_bytes_a_slot(rt: HostRuntime) {
+    assert_eq!(rt; size_of::<Row>(), 32);
 }

@@ -1,5 +1,5 @@
 -- Levels: a class and a set of categories, and when one dominates another.
-use Rattle.std.specs.Prelude.{ℕ, ◌≤◌, Bool, ◌&&◌, ◌==◌, nat_le, List, [], Contains, slice_index_or}
+use Rattle.std.specs.Prelude.{ℕ, ◌≤◌, Bool, ◌&&◌, ◌==◌, nat_le, nat_lt, List, [], Contains, slice_index_or}
 use Rattle.std.specs.List.{list_any, list_all}
 
 -- a class, and a set of categories, given by a list in which neither order nor repetition matters
@@ -23,6 +23,10 @@ has_category level category = list_any (λ c. category == c) level.categories
 -- `Dominates` as a test
 abbrev pub dominates : (above below : Level) → Bool
 dominates above below = nat_le below.class above.class && list_all (has_category above) below.categories
+
+-- each of the level's categories is below n
+abbrev pub has_only_below : (n : ℕ) → Level → Bool
+has_only_below n level = list_all (λ category. nat_lt category n) level.categories
 
 -- the same level: each dominates the other, so they have the same class and the same set of categories
 abbrev pub is_same_level : Level → Level → Bool

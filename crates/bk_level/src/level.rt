@@ -1,19 +1,20 @@
-// A level, its class in a byte and its categories in a mask.
+// A level, its class in a byte and its categories in three words.
 
-ghost use Rattle.std.specs.Prelude.{◌≡◌, ◌↔◌, ℕ, [], ◌∷◌, true, false, IsTrue};
+ghost use Rattle.std.specs.Prelude.{◌≡◌, ◌↔◌, ◌<◌, ◌^◌, ℕ, [], ◌∷◌, true, false, IsTrue};
 ghost use Rattle.std.specs.Cmp.{partial_equiv_from_equiv};
 ghost use Rattle.bk_level.specs.Levels as model;
+ghost use Rattle.bk_level.specs.Masks.{categories_of, mask_of};
 ghost use Rattle.bk_level.specs.Sameness.{is_same_level-equiv};
 
 use std::marker::Model;
 
-/// A class of 0 to 255 and a set of 16 categories, one for each bit of `cats`.
+/// A class of 0 to 255 and a set of categories of 0 to 47. Category c is bit c mod 16 of word c / 16 of `cats`.
 ///
-/// A clause sees it as its class and the list of its categories, which are the places of the mask's bits.
+/// A clause sees it as its class and the list of its categories, which are the places of the bits.
 #[derive(Clone, Copy, Debug)]
 pub struct Level {
     pub class: u8,
-    pub cats: u16,
+    pub cats: [u16; 3],
 }
 
 impl Model for Level {
@@ -38,7 +39,7 @@ impl PartialEq for Level {
     ghost laws = { partial_equiv_from_equiv is_same_level-equiv };
 
     fn eq(&self, other: &Level) -> bool {
-        self.class == other.class && self.cats == other.cats
+        self.class == other.class && self.mask() == other.mask()
     }
 }
 
@@ -52,7 +53,10 @@ impl Level {
     pub fn lowest() -> Level
         ensures { result ≡ model.lowest }
     {
-        Level { class: 0, cats: 0 }
+        Level {
+            class: 0,
+            cats: [0, 0, 0],
+        }
     }
 
     /// Whether this level's class is at least the other's, and it has all of the other's categories (MTR-2997).
@@ -63,11 +67,29 @@ impl Level {
         self.has_at_least(other)
     }
 
+    /// Whether each category is below 16, so that all stand in the first word.
+    pub fn has_only_first_word(&self) -> bool
+        ensures { result ≡ model.has_only_below 16 self.now }
+    {
+        self.cats[1] == 0 && self.cats[2] == 0
+    }
+
     // The masks are compared: each bit of the other's is one of this one's.
     fn has_at_least(self, other: Level) -> bool
         ensures { result ≡ model.dominates self other }
     {
-        other.class <= self.class && other.cats & self.cats == other.cats
+        other.class <= self.class && other.mask() & self.mask() == other.mask()
+    }
+
+    // The words as one number of 48 bits, the first word lowest.
+    fn mask(self) -> u64
+        ensures value { result ≡ mask_of self.categories }
+        ensures categories { self.categories ≡ categories_of result }
+        ensures small { result < 2 ^ 48 }
+    {
+        u64::from(self.cats[0])
+            + u64::from(self.cats[1]) * 0x1_0000
+            + u64::from(self.cats[2]) * 0x1_0000_0000
     }
 }
 
@@ -101,24 +123,43 @@ pub fn law_example()
 mod tests {
     use super::Level;
 
-    // Class and categories of the first level, of the second, and whether the first dominates.
+    fn level(class: u8, cats: [u16; 3]) -> Level {
+        Level { class, cats }
+    }
+
+    // A level, another, and whether the first one dominates.
     #[test]
     fn dominates_by_class_and_by_categories(rt: HostRuntime) {
         let rows = [
-            (2, 0b10, 2, 0b10, true),
-            (2, 0b11, 1, 0b10, true),
-            (1, 0b11, 2, 0b10, false),
-            (2, 0b10, 1, 0b11, false),
-            (1, 0b01, 0, 0b10, false), // neither dominates
-            (255, 0x8000, 255, 0x8000, true),
-            (255, 0x7fff, 0, 0x8000, false),
+            (level(2, [0b10, 0, 0]), level(2, [0b10, 0, 0]), true),
+            (level(2, [0b11, 0, 0]), level(1, [0b10, 0, 0]), true),
+            (level(1, [0b11, 0, 0]), level(2, [0b10, 0, 0]), false),
+            (level(2, [0b10, 0, 0]), level(1, [0b11, 0, 0]), false),
+            (level(1, [0b01, 0, 0]), level(0, [0b10, 0, 0]), false), // neither dominates
+            (level(255, [0x8000, 0, 0]), level(255, [0x8000, 0, 0]), true),
+            (
+                level(255, [0x7fff, 0xffff, 0xffff]),
+                level(0, [0x8000, 0, 0]),
+                false,
+            ),
+            (level(1, [0, 1, 0]), level(1, [0, 1, 0]), true), // category 16
+            (level(1, [1, 0xfffe, 1]), level(1, [0, 1, 0]), false),
+            (level(1, [0, 0x8000, 0]), level(1, [0, 0x8000, 0]), true), // category 31
+            (
+                level(1, [0x8000, 0x7fff, 0x8000]),
+                level(1, [0, 0x8000, 0]),
+                false,
+            ),
+            (level(1, [0, 0, 1]), level(1, [0, 0, 1]), true), // category 32
+            (level(1, [1, 1, 0xfffe]), level(1, [0, 0, 1]), false),
+            (level(1, [0, 0, 0x8000]), level(1, [0, 0, 0x8000]), true), // category 47
+            (
+                level(1, [0x8000, 0x8000, 0x7fff]),
+                level(1, [0, 0, 0x8000]),
+                false,
+            ),
         ];
-        for (class, cats, other_class, other_cats, dominates) in rows {
-            let above = Level { class, cats };
-            let below = Level {
-                class: other_class,
-                cats: other_cats,
-            };
+        for (above, below, dominates) in rows {
             assert_eq!(rt; above.dominates(below), dominates);
         }
     }

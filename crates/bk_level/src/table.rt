@@ -1,8 +1,8 @@
 // The list of an image's levels, by whose places objects and subjects name theirs.
 
 ghost use Rattle.std.specs.Prelude.{◌≡◌, ◌≤◌, ◌↔◌, [], ◌∷◌, ◌++◌, length, IsTrue, OnOk, OnErr, slice_get};
-ghost use Rattle.std.specs.List.{IsDistinct};
-ghost use Rattle.bk_level.specs.Levels.{has_level, is_same_level, level_at, most_levels};
+ghost use Rattle.std.specs.List.{IsDistinct, list_all};
+ghost use Rattle.bk_level.specs.Levels.{has_level, has_only_below, is_same_level, level_at, most_levels};
 
 use crate::Level;
 use std::marker::Model;
@@ -51,7 +51,10 @@ impl LevelTable {
         ensures { result ≡ [] }
     {
         LevelTable {
-            levels: [Level { class: 0, cats: 0 }; MOST_LEVELS],
+            levels: [Level {
+                class: 0,
+                cats: [0, 0, 0],
+            }; MOST_LEVELS],
             len: 0,
         }
     }
@@ -109,6 +112,15 @@ impl LevelTable {
     {
         self.levels[..self.len as usize].contains(&level)
     }
+
+    /// Whether each category of each level is below 16.
+    pub fn has_only_first_words(&self) -> bool
+        ensures { result ≡ list_all (has_only_below 16) self.now }
+    {
+        self.levels[..self.len as usize]
+            .iter()
+            .all(|level| level.has_only_first_word())
+    }
 }
 
 #[cfg(test)]
@@ -121,18 +133,36 @@ mod tests {
     fn takes_64_distinct_levels(rt: HostRuntime) {
         let mut table = LevelTable::new();
         for class in 0..64u8 {
-            assert_eq!(rt; table.push(Level { class, cats: 1 }), Ok(()));
+            assert_eq!(rt;
+                table.push(Level {
+                    class,
+                    cats: [1, 0, 0]
+                }),
+                Ok(())
+            );
         }
         assert_eq!(rt;
-            table.push(Level { class: 63, cats: 1 }),
+            table.push(Level {
+                class: 63,
+                cats: [1, 0, 0]
+            }),
             Err(LevelNo::Doubled)
         );
         assert_eq!(rt;
-            table.push(Level { class: 64, cats: 1 }),
+            table.push(Level {
+                class: 64,
+                cats: [1, 0, 0]
+            }),
             Err(LevelNo::Full)
         );
         assert_eq!(rt; table.len(), 64);
-        assert_eq!(rt; table.get(63), Some(Level { class: 63, cats: 1 }));
+        assert_eq!(rt;
+            table.get(63),
+            Some(Level {
+                class: 63,
+                cats: [1, 0, 0]
+            })
+        );
         assert_eq!(rt; table.get(64), None);
     }
 }

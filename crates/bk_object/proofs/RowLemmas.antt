@@ -1,12 +1,26 @@
 -- Rows by bytes: what a subject's half of a byte is, and a write of it.
-use Rattle.std.proofs.Common.{◌≡◌, ℕ, zero, suc, ◌+◌, ◌*◌, ◌/◌, ◌%◌, ◌<◌, List, [], ◌∷◌, length, set, get_or, refl, ap, arith}
+use Rattle.std.proofs.Common.{◌≡◌, ℕ, zero, suc, ◌+◌, ◌*◌, ◌/◌, ◌%◌, ◌<◌, List, [], ◌∷◌, ◌++◌, length, replicate, set, get_or, refl, ap, arith}
 use Rattle.bk_object.specs.declared.modes.Modes.{Modes}
+use Rattle.bk_object.specs.Modes.{no_modes}
 use Rattle.bk_object.specs.Pairs.{split_pairs}
 
 -- two sets for each byte
 pub length-split_pairs : (pairs : List ℕ) → length (split_pairs pairs) ≡ length pairs + length pairs
 length-split_pairs [] = refl
 length-split_pairs (pair ∷ pairs) = let rest = length-split_pairs pairs in omega (arith, rest)
+
+-- bytes of zero stand for sets of no modes
+pub split_pairs-zeros : (n sets : ℕ) → sets ≡ n + n → split_pairs (replicate n 0) ≡ replicate sets no_modes
+split_pairs-zeros zero zero is = refl
+split_pairs-zeros zero (suc sets) is = absurd (omega arith)
+split_pairs-zeros (suc n) zero is = absurd (omega arith)
+split_pairs-zeros (suc n) (suc zero) is = absurd (omega arith)
+split_pairs-zeros (suc n) (suc (suc sets)) is = ap (λ rest. no_modes ∷ no_modes ∷ rest) (split_pairs-zeros n sets (omega arith))
+
+-- the sets of bytes that follow others follow theirs
+pub split_pairs-append : (pairs more : List ℕ) → split_pairs (pairs ++ more) ≡ split_pairs pairs ++ split_pairs more
+split_pairs-append [] more = refl
+split_pairs-append (pair ∷ pairs) more = ap (λ sets. record { 0 = pair % 16 } ∷ record { 0 = pair / 16 } ∷ sets) (split_pairs-append pairs more)
 
 pub low_at : (pairs : List ℕ) (k n : ℕ) (other : Modes) → n ≡ k + k → k < length pairs → get_or (split_pairs pairs) n other ≡ record { 0 = get_or pairs k 0 % 16 }
 low_at [] k n other is below = absurd (omega arith)

@@ -5,7 +5,7 @@ use Rattle.bk_object.specs.Modes.{no_modes, union, without}
 
 -- how many subjects a system has at most; a row has a set of modes for each
 abbrev pub most_subjects : ℕ
-most_subjects = 32
+most_subjects = 64
 
 -- the row that grants nothing to anybody
 abbrev pub empty_row : List Modes

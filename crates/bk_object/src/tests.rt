@@ -1,6 +1,6 @@
 // Tests of what no clause says: that modes and rows work together through `Flags`.
 
-use crate::{Kind, Modes, Row};
+use crate::{Kind, Modes, Row, RowOf};
 use bitflags::Flags;
 
 // The numbers of the kinds' modes: r 1, e 2, w 4, a 8.
@@ -28,6 +28,22 @@ fn rows_keep_each_subject_apart(rt: HostRuntime) {
     assert_eq!(rt; row.get(6).bits(), 3);
     assert_eq!(rt; row.get(7).bits(), 8);
     assert_eq!(rt; row.get(31).bits(), 0);
+    row.add(63, Modes::E);
+    assert_eq!(rt; row.get(63).bits(), 2);
+    assert_eq!(rt; row.get(31).bits(), 0);
     assert!(rt; row.get(6).contains(Modes::R));
     assert_eq!(rt; Modes::from_bits(16), None);
+}
+
+// A row of 32 subjects widened keeps theirs, and subject 32 has nothing of subject 0.
+#[test]
+fn widened_rows_keep_each_subject(rt: HostRuntime) {
+    let mut row = RowOf::<16>::new();
+    row.add(0, Modes::R);
+    row.add(31, Modes::W | Modes::A);
+    let wide = row.widen();
+    assert_eq!(rt; wide.get(0).bits(), 1);
+    assert_eq!(rt; wide.get(31).bits(), 12);
+    assert_eq!(rt; wide.get(32).bits(), 0);
+    assert_eq!(rt; wide.get(63).bits(), 0);
 }

@@ -1,1 +1,4 @@
 pub mod PathLemmas
+pub mod KeyLemmas
+pub mod KeyWords
+pub mod KeyOrder

@@ -6,6 +6,8 @@ ghost use Rattle.std.specs.List.{list_all};
 ghost use Rattle.std.specs.Cmp;
 ghost use Rattle.std.specs.declared.cmp.Ordering.TheVariants.{Less};
 ghost use Rattle.bk_path.specs.Orders.{is_same_equiv, path_partial, path_total, ties-same};
+ghost use Rattle.bk_path.specs.Keys.{key_of, past_of};
+ghost use Rattle.std.specs.Ordering.{nat_cmp};
 ghost use Rattle.bk_path.specs.Paths as model;
 ghost use Rattle.bk_path.specs.Spelt.{Spells};
 
@@ -62,11 +64,7 @@ impl Ord for Path {
     ghost matches_eq = { λ p q. Prim.search (ties-same) };
 
     fn cmp(&self, other: &Path) -> Ordering {
-        let mine = self.entries();
-        let its = other.entries();
-        let mine: &[u8] = &mine[..self.depth() as usize];
-        let its: &[u8] = &its[..other.depth() as usize];
-        mine.cmp(&its)
+        self.key().cmp(&other.key())
     }
 }
 
@@ -133,6 +131,25 @@ impl Path {
         self.depth() == 0
     }
 
+    /// The number by which paths are ordered: the seven entries in four bits each, root first, with zeros past the depth, in 28
+    /// bits; then the depth in 3. So the numbers of a path and of all its inferiors stand together, and a parent's comes before
+    /// its children's.
+    pub fn key(self) -> u32
+        ensures value { result ≡ key_of self }
+        ensures path { model.IsPath self }
+    {
+        (u32::from(self.first % 4096) * 65536 + u32::from(self.second)) * 8
+            + u32::from(self.first / 4096)
+    }
+
+    /// The first number past those of the path and its inferiors.
+    pub fn past(self) -> u32
+        ensures { result ≡ past_of self }
+    {
+        let size = 1u32 << (28 - 4 * u32::from(self.depth()));
+        (self.key() / 8 + size) * 8
+    }
+
     /// How many entries the path has.
     pub fn depth(self) -> u8
         ensures value { result ≡ length self }
@@ -157,10 +174,8 @@ impl Path {
         ensures value { result ≡ model.is_inferior self of }
         ensures fact { IsTrue result ↔ model.IsInferior self of }
     {
-        let mine = self.entries();
-        let its = of.entries();
-        let depth = of.depth() as usize;
-        depth <= self.depth() as usize && mine[..depth] == its[..depth]
+        let key = self.key();
+        of.key() <= key && key < of.past()
     }
 
     /// The two words of the path: the depth in bits 15 to 12 of the first, then the entries in four bits each.
@@ -227,6 +242,13 @@ pub fn law_packing()
     ensures only { (first second : ℕ) (path : List ℕ) → first < 2 ^ 16 → second < 2 ^ 16 →
         model.unpack first second ≡ Some path → (model.pack path ≡ (first, second)) × model.IsPath path }
     ensures injective { (p q : List ℕ) → model.IsPath p → model.IsPath q → model.pack p ≡ model.pack q → p ≡ q }
+{}
+
+/// Paths order as their numbers do, and a path's inferiors are those whose numbers stand from its own on and below its bound.
+pub fn law_keys()
+    ensures order { (p q : List ℕ) → model.IsPath p → model.IsPath q → nat_cmp (key_of p) (key_of q) ≡ model.path_cmp p q }
+    ensures inferior { (p of : List ℕ) → model.IsPath p → model.IsPath of → model.is_inferior p of ≡ true → (key_of of ≤ key_of p) × (key_of p < past_of of) }
+    ensures between { (p of : List ℕ) → model.IsPath p → model.IsPath of → key_of of ≤ key_of p → key_of p < past_of of → model.is_inferior p of ≡ true }
 {}
 
 /// `/1` packs to 010400, 000000, and the deepest path of 15s fills both words but for the top bit; an entry past the depth

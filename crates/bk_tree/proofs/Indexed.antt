@@ -14,11 +14,11 @@ use Rattle.bk_path.proofs.PathLemmas.{is_inferior-append}
 use Rattle.bk_tree.specs.declared.place.Placed.{Placed}
 use Rattle.bk_tree.specs.declared.order.Entry.{Entry}
 use Rattle.bk_tree.specs.Objects.{Objects, HasNone, IsLeafOf, begun, slot_of, without}
-use Rattle.bk_tree.specs.Keys.{key_of, past_of}
+use Rattle.bk_path.specs.Keys.{key_of, past_of}
 use Rattle.bk_tree.specs.Order.{keyed, rank, IsLastOf, IsNoneOf}
 use Rattle.bk_tree.specs.Whole.{Finds, IsEntered, IsIndex, IsOfObject}
 use Rattle.bk_tree.proofs.Found.{tied_path, tied-itself}
-use Rattle.bk_tree.proofs.KeyLemmas.{child_above, inferior_within, same_key, within_inferior}
+use Rattle.bk_path.proofs.KeyLemmas.{child_above, inferior_within, same_key, within_inferior}
 use Rattle.bk_tree.proofs.OrderLemmas.{Entered, Left, entering, found, leaving, number_itself, other_number, rising_from, rising_to, same_number}
 
 -- a search finds what the map has

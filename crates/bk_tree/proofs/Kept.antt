@@ -19,7 +19,7 @@ use Rattle.bk_tree.specs.declared.place.Object.{Object}
 use Rattle.bk_tree.specs.declared.order.Entry.{Entry}
 use Rattle.bk_tree.specs.Objects.{CanGo, HasNoChild, Objects, IsAt, facts_of, without}
 use Rattle.bk_tree.specs.Kept.{cell_in, Fits, HasDirectory, IsFit, IsKept}
-use Rattle.bk_tree.specs.Keys.{key_of}
+use Rattle.bk_path.specs.Keys.{key_of}
 use Rattle.std.specs.Ordering.{nat_cmp}
 use Rattle.bk_tree.specs.Order.{keyed, rank}
 use Rattle.bk_tree.specs.Places.{tree_of}

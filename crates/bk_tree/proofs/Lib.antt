@@ -9,7 +9,6 @@ pub mod Counted
 pub mod Fitting
 pub mod Created
 pub mod Tested
-pub mod KeyLemmas
 pub mod OrderLemmas
 pub mod Indexed
 pub mod CellLemmas

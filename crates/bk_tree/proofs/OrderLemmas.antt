@@ -12,7 +12,7 @@ use Rattle.std.proofs.lemmas.Option.{get_or_from_slice_get, slice_get-get_or}
 use Rattle.bk_base.proofs.Totals.{tied}
 use Rattle.bk_path.specs.Paths.{Path}
 use Rattle.bk_tree.specs.declared.order.Entry.{Entry}
-use Rattle.bk_tree.specs.Keys.{key_of, past_of}
+use Rattle.bk_path.specs.Keys.{key_of, past_of}
 use Rattle.std.specs.Prelude.{⊤}
 use Rattle.std.specs.Cmp.{first_so, second_so}
 use Rattle.std.proofs.Common.{nat_le, ◌&&◌}

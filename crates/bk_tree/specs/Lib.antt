@@ -3,7 +3,6 @@ pub mod Kept
 pub mod Needs
 pub mod Refused
 pub mod Places
-pub mod Keys
 pub mod Order
 pub mod Whole
 pub mod Down

@@ -4,7 +4,7 @@ use Rattle.std.specs.FinMap as finite
 use Rattle.std.specs.Ordering.{nat_cmp}
 use Rattle.bk_path.specs.Paths.{Path}
 use Rattle.bk_tree.specs.declared.order.Entry.{Entry}
-use Rattle.bk_tree.specs.Keys.{key_of, past_of}
+use Rattle.bk_path.specs.Keys.{key_of, past_of}
 
 -- each number with its slot
 abbrev pub keyed : List Entry → List (ℕ × ℕ)

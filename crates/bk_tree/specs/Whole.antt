@@ -9,7 +9,7 @@ use Rattle.bk_tree.specs.declared.place.Object.{Object}
 use Rattle.bk_tree.specs.declared.order.Entry.{Entry}
 use Rattle.bk_tree.specs.Objects.{Objects}
 use Rattle.bk_tree.specs.Kept.{cell_in, has_cell}
-use Rattle.bk_tree.specs.Keys.{key_of}
+use Rattle.bk_path.specs.Keys.{key_of}
 use Rattle.bk_tree.specs.Order.{keyed, HasKey, IsSorted}
 use Rattle.bk_tree.specs.Places.{tree_of, IsTree}
 

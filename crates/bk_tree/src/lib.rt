@@ -2,8 +2,7 @@
 //!
 //! Model: `specs/Objects.antt` (`Objects`, `IsAt`, `IsLeafOf`, `without`), `specs/Kept.antt` (`IsFit`, `Fits`, `cell_in`),
 //! `specs/Refused.antt` (`Refuses`), `specs/Needs.antt` (`needs_in`, `blocks_in`); `specs/Places.antt` (`tree_of`) says what a
-//! list of places stands for, `specs/Keys.antt` and `specs/Order.antt` what number a path has and how the list of paths is
-//! sorted, `specs/Down.antt` the numbers of free slots, `specs/Whole.antt` (`IsWhole`) what the tables keep: the counters among
+//! list of places stands for, `specs/Order.antt` how the list of paths is sorted by their numbers, `specs/Down.antt` the numbers of free slots, `specs/Whole.antt` (`IsWhole`) what the tables keep: the counters among
 //! them are the used numbers of the map.
 //! Calls: `Tree::reserve`, `find`, `facts`, `set_row`, `create`, `cell`, `next_leaf`, `remove_leaf`, `law_slots`, `law_kept`,
 //! `law_room`.

@@ -6,7 +6,7 @@ ghost use Rattle.std.specs.Ordering.{nat_cmp};
 ghost use Rattle.std.specs.List.{insert, remove};
 ghost use Rattle.std.specs.Vec.{vec_capacity};
 ghost use Rattle.bk_path.specs.Paths.{IsPath};
-ghost use Rattle.bk_tree.specs.Keys.{key_of, past_of};
+ghost use Rattle.bk_path.specs.Keys.{key_of, past_of};
 ghost use Rattle.bk_tree.specs.Order.{keyed, rank, slot_if, IsLastOf, IsNoneOf, IsSorted};
 
 use bk_object::Slot;
@@ -17,24 +17,6 @@ use bk_path::Path;
 pub(crate) struct Entry {
     pub(crate) key: u32,
     pub(crate) slot: u16,
-}
-
-// The number of a path: its entries in four bits each, root first, in 28 bits; then its depth. So the numbers of a path and of
-// all its inferiors stand together, and a parent's comes before its children's.
-pub(crate) fn key_of(path: Path) -> u32
-    ensures value { result ≡ key_of path }
-    ensures path { IsPath path }
-{
-    let (first, second) = path.pack();
-    (u32::from(first % 4096) * 65536 + u32::from(second)) * 8 + u32::from(first / 4096)
-}
-
-// The first number past those of the path and its inferiors.
-fn past_of(path: Path) -> u32
-    ensures { result ≡ past_of path }
-{
-    let key = key_of(path);
-    (key / 8 + 16u32.pow(7 - key % 8)) * 8
 }
 
 // How many numbers of the list are below that one.
@@ -52,7 +34,7 @@ pub(crate) fn slot_at(order: &Vec<Entry>, path: Path) -> Option<Slot>
     ensures slot { option_map (λ slot. slot.n) result ≡ map.find nat_cmp (key_of path) (keyed order.now.items) }
     ensures path { IsPath path }
 {
-    let key = key_of(path);
+    let key = path.key();
     slot_if(entry_at(order, rank(order, key)), key)
 }
 
@@ -102,7 +84,7 @@ pub(crate) fn enter(order: &mut Vec<Entry>, path: Path, slot: Slot)
     ensures capacity { vec_capacity order.old ≤ vec_capacity order.new }
     ensures path { IsPath path }
 {
-    let key = key_of(path);
+    let key = path.key();
     let at = rank(order, key);
     let _ = order.insert(at, Entry { key, slot: slot.n });
 }
@@ -114,7 +96,7 @@ pub(crate) fn leave(order: &mut Vec<Entry>, path: Path)
     ensures items { order.new.items ≡ remove order.old.items (rank (key_of path) order.old.items) }
     ensures capacity { vec_capacity order.old ≤ vec_capacity order.new }
 {
-    let at = rank(order, key_of(path));
+    let at = rank(order, path.key());
     order.remove(at);
 }
 
@@ -125,8 +107,8 @@ pub(crate) fn last_inferior(order: &Vec<Entry>, of: Path) -> Option<Slot>
     ensures none { IfNone result (IsNoneOf order.now.items of) }
     ensures path { IsPath of }
 {
-    let key = key_of(of);
-    let end = rank(order, past_of(of));
+    let key = of.key();
+    let end = rank(order, of.past());
     if end == 0 {
         None
     } else {

@@ -1,7 +1,7 @@
 use Rattle.std.proofs.Common.{◌∙◌, ap, arith, rules, replicate, set, Some}
 use Rattle.std.specs.List.{insert}
 use Rattle.bk_tree.specs.Places.{tree_of}
-use Rattle.bk_tree.specs.Keys.{key_of}
+use Rattle.bk_path.specs.Keys.{key_of}
 use Rattle.bk_tree.specs.Order.{rank}
 use Rattle.bk_tree.proofs.Changed.{begun-places}
 use Rattle.bk_tree.proofs.Kept.{begun_whole}

@@ -1,11 +1,11 @@
 use Rattle.std.proofs.Common.{◌/◌, ◌%◌, ◌*◌, ◌+◌, set, get_or, ◌∙◌, ap, arith}
 use Rattle.bk_object.specs.Pairs.{split_pairs}
 use Rattle.bk_object.proofs.RowLemmas.{set_low, set_high}
-use Rattle.bk_object.proofs.row.Row.set.Goals as goal
-use Rattle.bk_object.proofs.row.Row.set.Goals.{then-subject-eq0, else-subject-eq0}
+use Rattle.bk_object.proofs.row.RowOf.set.Goals as goal
+use Rattle.bk_object.proofs.row.RowOf.set.Goals.{then-subject-eq0, else-subject-eq0}
 
 pub returns : goal.returns
-returns c = elim c.if-subject-eq0.branch [
+returns g c = elim c.if-subject-eq0.branch [
   | then-subject-eq0 w ↦
       let even = w.if-subject-eq0.true in let low = c.requires.subject in let whole = c.self.told in
       ap (λ pair. split_pairs (set c.self.inside.pairs (c.args.subject / 2) pair)) (w.self-is ∙ ap (λ bits. get_or c.self.inside.pairs (c.args.subject / 2) 0 / 16 * 16 + bits) (w.bits.ensures tt))

@@ -1,5 +1,5 @@
 -- The number of a path: the numbers of a path's inferiors are those from its own on and below a bound, and no two paths have one.
-use Rattle.std.proofs.Common.{◌≡◌, inl, inr, ℕ, zero, suc, ◌+◌, ◌-◌, ◌*◌, ◌/◌, ◌%◌, ◌^◌, ◌<◌, ◌≤◌, true, List, [], ◌∷◌, ◌++◌, length, reverse, take, get_or}
+use Rattle.std.proofs.Common.{◌≡◌, inl, inr, ℕ, zero, suc, ◌+◌, ◌-◌, ◌*◌, ◌<◌, ◌≤◌, true, List, [], ◌∷◌, ◌++◌, length, reverse, take}
 use Rattle.std.proofs.Common.{refl, sym, ap, ◌∙◌, subst, arith, nat_le, nat_lt}
 use Rattle.std.specs.Prelude.{⊤}
 use Rattle.std.specs.List.{list_all}
@@ -9,9 +9,9 @@ use Rattle.std.proofs.lemmas.Bool.{cases_lt}
 use Rattle.std.proofs.lemmas.Bool.Decides.{nat_tests}
 use Rattle.std.proofs.lemmas.Nat.{mul-add-lt}
 use Rattle.std.proofs.lemmas.List.{reverse-reverse, length-reverse, reverse-append}
-use Rattle.bk_path.specs.Paths.{Path, is_inferior, pack, IsPath}
+use Rattle.bk_path.specs.Paths.{Path, is_inferior, IsPath}
 use Rattle.bk_path.proofs.PathLemmas.{IsInferior-from, inferior-front, is_inferior-from}
-use Rattle.bk_tree.specs.Keys.{key_of, number, past_of, weight}
+use Rattle.bk_path.specs.Keys.{key_of, number, past_of, weight}
 
 -- each entry is below 16
 abbrev pub AllSmall : List ℕ → Type 0
@@ -24,22 +24,22 @@ IsFront [] ys = ⊤
 IsFront (x ∷ xs) [] = ⊥
 IsFront (x ∷ xs) (y ∷ ys) = (x ≡ y) × IsFront xs ys
 
-number-nil : (n : ℕ) → number n [] ≡ 0
+pub number-nil : (n : ℕ) → number n [] ≡ 0
 number-nil zero = refl
 number-nil (suc n) = refl
 
-some : (n : ℕ) → 1 ≤ weight n
+pub some : (n : ℕ) → 1 ≤ weight n
 some zero = omega arith
 some (suc n) = omega (arith, some n)
 
 -- a digit that is higher counts more than all that can stand behind the lower one
-above : (x y w : ℕ) → x < y → 1 ≤ w → x * w + w ≤ y * w
+pub above : (x y w : ℕ) → x < y → 1 ≤ w → x * w + w ≤ y * w
 above x y w lt one =
     let less = mul-add-lt x w (w - 1) y lt (omega (arith, one)) in
     let turned = mul_comm w y in
     omega (arith, less, turned, one)
 
-below : (n : ℕ) (xs : List ℕ) → AllSmall xs → number n xs + 1 ≤ weight n
+pub below : (n : ℕ) (xs : List ℕ) → AllSmall xs → number n xs + 1 ≤ weight n
 below zero xs small = omega arith
 below (suc n) [] small = omega (arith, some n)
 below (suc n) (x ∷ xs) small =
@@ -50,7 +50,7 @@ below (suc n) (x ∷ xs) small =
 less : (n : ℕ) (xs : List ℕ) → length (0 ∷ xs) ≤ suc n → suc n - length (0 ∷ xs) ≡ n - length xs
 less n xs within = omega arith
 
-fills : (n : ℕ) (xs : List ℕ) → AllSmall xs → length xs ≤ n → number n xs + weight (n - length xs) ≤ weight n
+pub fills : (n : ℕ) (xs : List ℕ) → AllSmall xs → length xs ≤ n → number n xs + weight (n - length xs) ≤ weight n
 fills n [] small within = let none = number-nil n in let all : weight (n - 0) ≡ weight n = ap weight (let e : n - 0 ≡ n = omega arith in e) in omega (arith, none, all)
 fills zero (x ∷ xs) small within = absurd (omega (arith, within))
 fills (suc n) (x ∷ xs) small within =
@@ -205,64 +205,3 @@ child_above entry path p child below =
     let few = b.few in
     let depth = b.depth in
     omega (arith, from, few, depth)
-
--- the two words of a path have its number's digits
-pub number-entries : (xs : List ℕ) → number 7 xs ≡ get_or xs 0 0 * 16777216 + get_or xs 1 0 * 1048576 + get_or xs 2 0 * 65536 + get_or xs 3 0 * 4096 + get_or xs 4 0 * 256 + get_or xs 5 0 * 16 + get_or xs 6 0
-number-entries [] = refl
-number-entries (a ∷ []) = omega arith
-number-entries (a ∷ b ∷ []) = omega arith
-number-entries (a ∷ b ∷ c ∷ []) = omega arith
-number-entries (a ∷ b ∷ c ∷ d ∷ []) = omega arith
-number-entries (a ∷ b ∷ c ∷ d ∷ e ∷ []) = omega arith
-number-entries (a ∷ b ∷ c ∷ d ∷ e ∷ f ∷ []) = omega arith
-number-entries (a ∷ b ∷ c ∷ d ∷ e ∷ f ∷ g ∷ xs) = omega arith
-
-small_at : (xs : List ℕ) (k : ℕ) → AllSmall xs → get_or xs k 0 < 16
-small_at [] k h = omega arith
-small_at (x ∷ xs) zero h = h.0
-small_at (x ∷ xs) (suc k) h = small_at xs k h.1
-
--- what the code works out of the two words
-pub key_is : (path : Path) → IsPath path → (first second : ℕ) → (first, second) ≡ pack path → (first % 4096 * 65536 + second) * 8 + first / 4096 ≡ key_of path
-key_is path is first second packed =
-    let e = entries path is in
-    let xs = reverse path in
-    let digits = number-entries xs in
-    let a = small_at xs 0 e.small in
-    let b = small_at xs 1 e.small in
-    let c = small_at xs 2 e.small in
-    let f : first ≡ 4096 * length path + 256 * get_or xs 0 0 + 16 * get_or xs 1 0 + get_or xs 2 0 = λ i. (packed i).0 in
-    let s : second ≡ 4096 * get_or xs 3 0 + 256 * get_or xs 4 0 + 16 * get_or xs 5 0 + get_or xs 6 0 = λ i. (packed i).1 in
-    let few = e.few in
-    let depth = e.depth in
-    omega (arith, digits, a, b, c, f, s, few, depth)
-
-pub weight_is : (n : ℕ) → n ≤ 7 → 16 ^ n ≡ weight n
-weight_is zero h = refl
-weight_is (suc zero) h = refl
-weight_is (suc (suc zero)) h = refl
-weight_is (suc (suc (suc zero))) h = refl
-weight_is (suc (suc (suc (suc zero)))) h = refl
-weight_is (suc (suc (suc (suc (suc zero))))) h = refl
-weight_is (suc (suc (suc (suc (suc (suc zero)))))) h = refl
-weight_is (suc (suc (suc (suc (suc (suc (suc zero))))))) h = refl
-weight_is (suc (suc (suc (suc (suc (suc (suc (suc n)))))))) h = absurd (omega (arith, h))
-
--- the bound, worked out of the number
-pub past_is : (path : Path) → IsPath path → (key size : ℕ) → key ≡ key_of path → size ≡ 16 ^ (7 - key % 8) → (key / 8 + size) * 8 ≡ past_of path
-past_is path is key size key_is size_is =
-    let e = entries path is in
-    let few = e.few in
-    let depth = e.depth in
-    let rest : key % 8 ≡ length path = omega (arith, key_is, few, depth) in
-    let head : key / 8 ≡ number 7 (reverse path) = omega (arith, key_is, few, depth) in
-    let weight_size : size ≡ weight (7 - length path) = size_is ∙ ap (λ n. 16 ^ (7 - n)) rest ∙ weight_is (7 - length path) (omega arith) in
-    omega (arith, head, weight_size)
-
--- and it is small
-pub past_small : (path : Path) → IsPath path → past_of path ≤ 2147483648
-past_small path is =
-    let e = entries path is in
-    let full = fills 7 (reverse path) e.small e.few in
-    let same = ap (λ n. weight (7 - n)) e.depth in
-    omega (arith, full, same)
