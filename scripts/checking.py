@@ -1,4 +1,9 @@
-"""What the checks of this folder share: building a program anew, the folder of cases from outside, and the last line."""
+"""What the checks of this folder share: building a program once, the folder of cases from outside, and the last line.
+
+Usage: checking.py CRATE      prints the path of the crate's program, once it is proved and built
+"""
+import glob
+import hashlib
 import os
 import subprocess
 import sys
@@ -16,18 +21,41 @@ def fail(text):
     sys.exit(1)
 
 
+def sources():
+    """A sum over what a program is built from: the toolchain, each crate's own files, and the list of crates."""
+    found = hashlib.sha256(subprocess.run(["rt", "version"], capture_output=True).stdout)
+    places = [os.path.join(top, "crates.txt")]
+    for kind in ("src", "specs", "proofs"):
+        places += glob.glob(os.path.join(top, "crates", "*", kind, "**", "*.*"), recursive=True)
+    for place in sorted(places):
+        found.update(os.path.relpath(place, top).encode() + b"\0" + content(place) + b"\0")
+    return found.hexdigest()
+
+
 def built(crate):
-    """The path of the crate's program, proved and built anew: what an earlier run left is taken away first."""
+    """The path of the crate's program, proved and built. What an earlier check built is taken where program and sources are the ones
+    that it left; else it is taken away, and the program is proved and built anew."""
     place = os.path.join(top, "crates", crate)
-    program = os.path.join(place, "out", crate)
-    if os.path.exists(program):
-        os.remove(program)
-    # Without input the program has nothing to do; its own status doesn't matter here.
-    made = subprocess.run(["rt", "run"], cwd=place, stdin=subprocess.DEVNULL, capture_output=True)
+    program, note = os.path.join(place, "out", crate), os.path.join(place, "out", "built-of")
+    state = sources()
+    if os.path.exists(note) and os.access(program, os.X_OK) and content(note).decode() == noted(state, program):
+        return program
+    for left in (note, program):
+        if os.path.exists(left):
+            os.remove(left)
+    # `gen 0` asks for no input; a program that reads its input finds none, and its own status doesn't matter here.
+    made = subprocess.run(["rt", "run", "--", "gen", "0"], cwd=place, stdin=subprocess.DEVNULL, capture_output=True)
     if not os.access(program, os.X_OK):
         sys.stdout.write((made.stdout + made.stderr).decode(errors="replace")[-2000:])
         fail(f"{crate} could not be built")
+    with open(note, "w") as file:
+        file.write(noted(state, program))
     return program
+
+
+def noted(state, program):
+    """What stands beside a program that was built of these sources."""
+    return f"{state} {hashlib.sha256(content(program)).hexdigest()}\n"
 
 
 def vectors(*parts):
@@ -66,3 +94,7 @@ def finish(agree, total, least, what):
     if total < least:
         fail(f"there have to be at least {least}")
     sys.exit(0 if agree == total else 1)
+
+
+if __name__ == "__main__":
+    print(built(sys.argv[1]))

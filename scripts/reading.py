@@ -1,5 +1,5 @@
-"""Images and reports as values, read by docs/FORMATS.md and by nothing of the program: the first fault of what is no image with
-its place and field, and the first text line of what is no report."""
+"""Images, scripts and reports as values, read by docs/FORMATS.md and by nothing of the program: the first fault of what is no image
+with its place and field, and the first text line of what is no script or no report."""
 import re
 import struct
 from types import SimpleNamespace as Value
@@ -183,7 +183,33 @@ def read_image(data):
     return image
 
 
-NUMBER = r"(?:0|[1-9]\d*)"
+NUMBER = r"(?:0|[1-9][0-9]*)"
+RECORD = re.compile(rb"(0|[1-9][0-9]{0,8}) (0|[1-9][0-9]{0,8}) ((?:[0-9a-f]{2}){1,128})")
+SLOTS = re.compile(rb"END (0|[1-9][0-9]{0,8})")
+MOST_SCRIPT, MOST_SLOTS, MOST_TURNS = 1048576, 65535, 4194304
+
+
+def read_script(data, image):
+    """The records of a script for the image, each with its slot, its line and its bytes, and the number of slots."""
+    check([("long", len(data) > MOST_SCRIPT)], "line 0")
+    records, before = [], (0, -1)
+    *lines, rest = data.split(b"\n")
+    for number, line in enumerate(lines, 1):
+        place = f"line {number}"
+        end, found = SLOTS.fullmatch(line), RECORD.fullmatch(line)
+        if end:
+            slots = int(end[1])
+            check([("limit", slots > MOST_SLOTS or slots * image.turns > MOST_TURNS), ("slot", records and records[-1].slot >= slots)], place)
+            check([("after", rest or lines[number:])], f"line {number + 1}")
+            return records, slots
+        check([("form", not found)], place)
+        slot, on = int(found[1]), int(found[2])
+        check([("limit", slot >= MOST_SLOTS), ("line", on >= image.lines), ("order", (slot, on) <= before)], place)
+        before = (slot, on)
+        records.append(Value(slot=slot, line=on, bytes=bytes.fromhex(found[3].decode())))
+    raise Refused(f"line {len(lines) + 1}", "end")
+
+
 ITEM = re.compile(rf"C ({NUMBER}) ({NUMBER}) ({NUMBER}) ([0-7]{{3}})((?: [0-7]{{6}}){{6}}) (?:(yes) 0|(no|\?) ([1-9]\d*))"
                   rf"|F ({NUMBER}) ({NUMBER}) ({NUMBER}) ([0-7]) ([0-7]{{6}}) (enter|stop)"
                   rf"|L ({NUMBER}) ({NUMBER}) ({NUMBER}) ([0-7]{{3}})")

@@ -75,14 +75,11 @@ fn listed(alloc: Global, call: Option<u32>) -> Result<Vec<u32>, AllocError> {
 /// What a call of the command is to give: its status, and what was written on the output and on the error output.
 type Wanted<'a> = (Status, &'a [u8], &'a [u8]);
 
-/// Whether the command gives what is wanted.
-fn gives(
-    alloc: Global,
-    words: &[&str],
-    input: &[u8],
-    outside: Outside,
-    wanted: Wanted,
-) -> Result<bool, Fail> {
+/// What a call of the command gives: its status, and what was written on the output and on the error output.
+type Given = (Status, Vec<u8>, Vec<u8>);
+
+/// What the command gives.
+fn given(alloc: Global, words: &[&str], input: &[u8], outside: Outside) -> Result<Given, Fail> {
     let mut all = Vec::new(alloc);
     for word in words {
         all.push(String::from_str(alloc, word)?)?;
@@ -101,7 +98,23 @@ fn gives(
         .ok()
         .ok_or("memory")?;
     let status = run_blpk(alloc, &all, &mut source, &mut sink, &mut errors);
-    Ok(status == wanted.0 && sink.taken() == wanted.1 && errors.taken() == wanted.2)
+    Ok((
+        status,
+        sink.taken().to_vec(alloc)?,
+        errors.taken().to_vec(alloc)?,
+    ))
+}
+
+/// Whether the command gives what is wanted.
+fn gives(
+    alloc: Global,
+    words: &[&str],
+    input: &[u8],
+    outside: Outside,
+    wanted: Wanted,
+) -> Result<bool, Fail> {
+    let (status, taken, told) = given(alloc, words, input, outside)?;
+    Ok(status == wanted.0 && taken.as_slice() == wanted.1 && told.as_slice() == wanted.2)
 }
 
 #[test]
@@ -544,21 +557,23 @@ fn reads_a_script_up_to_its_limit(rt: HostRuntime) -> Result<(), Fail> {
 fn tells_a_read_fault(rt: HostRuntime) -> Result<(), Fail> {
     let input = sample_bytes(rt.alloc(), SAMPLE_SCRIPT)?;
     // 314 bytes in pieces of 64 are five reads, and the sixth finds the end.
-    for call in 0..6 {
-        let outside = Outside {
-            read: 64,
-            failing_read: Some(call),
-            ..AMPLE
-        };
-        assert!(rt;
-            gives(
-                rt.alloc(),
-                &["run"],
-                &input,
-                outside,
-                (Status::ReadFault, b"", b"read fault\n")
-            )?
-        );
+    for (read, reads) in [(1, 315), (64, 6), (4096, 2)] {
+        for call in 0..reads {
+            let outside = Outside {
+                read,
+                failing_read: Some(call),
+                ..AMPLE
+            };
+            assert!(rt;
+                gives(
+                    rt.alloc(),
+                    &["run"],
+                    &input,
+                    outside,
+                    (Status::ReadFault, b"", b"read fault\n")
+                )?
+            );
+        }
     }
     Ok(())
 }
@@ -581,20 +596,24 @@ fn leaves_a_front_of_the_report_at_a_write_fault(rt: HostRuntime) -> Result<(), 
             )?
         );
     }
-    // The third write of 16 bytes fails.
-    let outside = Outside {
-        write: 16,
-        failing_write: Some(2),
-        ..AMPLE
-    };
-    assert!(rt;
-        gives(
-            rt.alloc(),
-            &["run"],
-            &input,
-            outside,
-            (Status::WriteFault, &SAMPLE_REPORT[..32], b"")
-        )?
-    );
+    // Each write that is made fails in turn: 791 bytes by 16 at a time are 50 writes at least.
+    for (write, least) in [(16, 50), (4096, 1)] {
+        let mut broken = 0;
+        for call in 0..100 {
+            let outside = Outside {
+                write,
+                failing_write: Some(call),
+                ..AMPLE
+            };
+            let (status, taken, told) = given(rt.alloc(), &["run"], &input, outside)?;
+            assert!(rt; SAMPLE_REPORT.starts_with(&taken) && told.is_empty());
+            if status == Status::WriteFault {
+                broken = call + 1;
+            } else {
+                assert!(rt; status == Status::Ok && taken.len() == SAMPLE_REPORT.len());
+            }
+        }
+        assert!(rt; broken >= least);
+    }
     Ok(())
 }
