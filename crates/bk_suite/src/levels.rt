@@ -2,7 +2,10 @@
 
 use bk_level::Level;
 
-// The level of that class, with the categories whose bits are set in the word.
+// The level of that class, with the categories whose bits are set in the first word.
 pub(crate) fn level(class: u8, cats: u16) -> Level {
-    Level { class, cats }
+    Level {
+        class,
+        cats: [cats, 0, 0],
+    }
 }
