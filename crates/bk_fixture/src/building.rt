@@ -33,7 +33,7 @@ fn levels_of(classes: &[u8]) -> Option<LevelTable> {
         table
             .push(Level {
                 class: *class,
-                cats: 0,
+                cats: [0, 0, 0],
             })
             .ok()?;
     }

@@ -24,7 +24,7 @@ use bk_store::Store;
 use bk_system::TypedAt;
 use std::marker::Model;
 
-/// The state of the system: the store; of each subject, 0 to 31, the numbers of its levels and its process; of each line the
+/// The state of the system: the store; of each subject, 0 to 63, the numbers of its levels and its process; of each line the
 /// number of its level; and the machine, with core, in which the process of one subject is loaded.
 #[derive(Drop)]
 pub(crate) struct Tables {

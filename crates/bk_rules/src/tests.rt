@@ -4,11 +4,20 @@ use crate::{Decision, Rule, RuleFacts, decide};
 use bk_level::Level;
 use bk_object::{Kind, Modes};
 
-const LOW: Level = Level { class: 0, cats: 0 };
+const LOW: Level = Level {
+    class: 0,
+    cats: [0, 0, 0],
+};
 
-const MIDDLE: Level = Level { class: 1, cats: 0 };
+const MIDDLE: Level = Level {
+    class: 1,
+    cats: [0, 0, 0],
+};
 
-const MARKED: Level = Level { class: 1, cats: 1 };
+const MARKED: Level = Level {
+    class: 1,
+    cats: [0, 1, 0],
+};
 
 // Facts by which every rule is answered yes: a segment that grants all modes, at the caller's one level.
 const PASSING: RuleFacts = RuleFacts {

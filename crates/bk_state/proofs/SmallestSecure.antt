@@ -52,7 +52,7 @@ in_only_row zero Read h = cc
 in_only_row zero Execute h = cc
 in_only_row zero Write h = (refl, omega arith)
 in_only_row zero Append h = cc
-in_only_row (suc s) x h = absurd (none x (subst (λ modes. has modes x ≡ true) (no_modes_at 31 s) h))
+in_only_row (suc s) x h = absurd (none x (subst (λ modes. has modes x ≡ true) (no_modes_at 63 s) h))
   where
     none : (x : AccessMode) → has no_modes x ≡ true → ⊥
     none Read h = cc

@@ -55,21 +55,21 @@ fn begun(alloc: Global, quota: u16) -> Option<Store> {
 // After a call on root for the last subject: by which modes it holds root, by which the one before it does, and which the
 // row grants the last one.
 fn modes_after(store: &mut Store, call: Call, bits: u8) -> Option<[u8; 3]> {
-    change(store, call, Path::root(), 31, Modes::from_bits_retain(bits))?;
+    change(store, call, Path::root(), 63, Modes::from_bits_retain(bits))?;
     let facts = store.facts(Path::root())?;
     Some([
-        store.held(31, Path::root()).bits(),
+        store.held(63, Path::root()).bits(),
         store.held(30, Path::root()).bits(),
-        facts.row.get(31).bits(),
+        facts.row.get(63).bits(),
     ])
 }
 
 // Whether no object is at the path, nobody holds it, and root is no segment; releasing the path changes nothing.
 fn is_nothing_at(store: &mut Store, path: Path) -> bool {
-    store.release(31, path, Modes::R);
+    store.release(63, path, Modes::R);
     store.facts(path).is_none()
         && store.extent(Path::root()).is_none()
-        && store.held(31, path).bits() == 0
+        && store.held(63, path).bits() == 0
 }
 
 // The limit and the used number of root's cell, and the class of the first level: None where there is a third level, or an

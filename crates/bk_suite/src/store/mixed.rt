@@ -14,7 +14,7 @@ use bk_store::Store;
 use bk_tree::TreeNo;
 
 // The subjects that are granted and hold anything; the others take no part.
-const SUBJECTS: [u8; 4] = [0, 1, 15, 31];
+const SUBJECTS: [u8; 4] = [0, 1, 31, 63];
 
 // A directory, one of another level, a segment or a mailbox: its kind, blocks, level and quota below that level.
 fn wish(n: u32, above: u8) -> (Kind, u8, u8, u16) {
