@@ -607,11 +607,11 @@ fn leaves_a_front_of_the_report_at_a_write_fault(rt: HostRuntime) -> Result<(), 
             };
             let (status, taken, told) = given(rt.alloc(), &["run"], &input, outside)?;
             assert!(rt; SAMPLE_REPORT.starts_with(&taken) && told.is_empty());
-            if status == Status::WriteFault {
-                broken = call + 1;
-            } else {
+            if status != Status::WriteFault {
                 assert!(rt; status == Status::Ok && taken.len() == SAMPLE_REPORT.len());
+                break;
             }
+            broken = call + 1;
         }
         assert!(rt; broken >= least);
     }
