@@ -12,11 +12,13 @@
 //! segments among it, fits root's quota; each call changes the one object that it names.
 //! Tested: that objects are created, counted and removed, and that a tree of as many objects as root's quota is filled, emptied
 //! and filled again.
-//! Neither: how long a call takes; that the list of paths is searched by halves is read in `src/order.rt`.
+//! Neither: how long a call takes; that a path is looked for where it is guessed, and the list of paths searched by halves
+//! where the guess is wrong, is read in `src/guess.rt` and `src/order.rt`.
 //! Stands on: `bk_base`, `bk_object`, `bk_path`, `bk_quota`.
 #![tactic(auto)]
 
 mod cells;
+mod guess;
 mod order;
 mod place;
 #[cfg(test)]

@@ -15,7 +15,8 @@ ghost use Rattle.bk_tree.specs.Down.{down_to_1};
 ghost use Rattle.bk_tree.specs.Objects.{facts_of, CanGo, HasNone, HasSlot, IsAt, IsLeafOf, begun, slot_of, without};
 
 use crate::cells::{is_taken, level_at, payer};
-use crate::order::{Entry, enter, last_inferior, leave, slot_at};
+use crate::guess::{GUESSES, expect_at, slot_for};
+use crate::order::{Entry, enter, last_inferior, leave};
 use crate::place::{
     Object, cell_at, charge_at, give_back_at, object_at, push_free, put, put_cell, with_row,
 };
@@ -46,6 +47,8 @@ pub struct Tree {
     order: Vec<Entry>,
     // The slots without an object, the next one last.
     free: Vec<u16>,
+    // Where the object of a path may be.
+    guesses: Vec<u16>,
 }
 
 impl Model for Tree {
@@ -81,6 +84,7 @@ impl Tree {
         let cells = vec![in alloc; Cell::new(root.quota); slots as usize]?;
         let mut order = Vec::with_capacity(alloc, slots as usize)?;
         let free = all_but_first(alloc, slots)?;
+        let guesses = vec![in alloc; 0; GUESSES as usize]?;
         let held = Object {
             path: Path::root(),
             facts: root,
@@ -92,6 +96,7 @@ impl Tree {
             cells,
             order,
             free,
+            guesses,
         })
     }
 
@@ -101,7 +106,7 @@ impl Tree {
         ensures some { IfSome result (λ slot. HasSlot self.now slot.n) }
         ensures none { IsNone result ↔ IsNone (map.get self.now path) }
     {
-        slot_at(&self.order, path)
+        slot_for(&self.places, &self.order, &self.guesses, path)
     }
 
     /// The facts of the object.
@@ -132,12 +137,13 @@ impl Tree {
             (self.new ≡ map.insert self.old path (record { slot = slot.n; facts = facts }))) }
         ensures err { IfErr result (λ no. Refuses self.old path facts no × (self.new ≡ self.old)) }
     {
-        if is_taken(&self.places, &self.order, path) {
+        if is_taken(&self.places, &self.order, &self.guesses, path) {
             return Err(TreeNo::Taken);
         }
         let above = path.above();
-        let payer = payer(&self.places, &self.order, above);
-        let charge = charge_of(&facts, level_at(&self.places, &self.order, above));
+        let payer = payer(&self.places, &self.order, &self.guesses, above);
+        let level = level_at(&self.places, &self.order, &self.guesses, above);
+        let charge = charge_of(&facts, level);
         if charge_at(&mut self.cells, payer, charge) {
             let slot = Slot {
                 n: self.free.pop().unwrap(),
@@ -145,6 +151,7 @@ impl Tree {
             put(&mut self.places, slot, Some(Object { path, facts }));
             put_cell(&mut self.cells, slot, Cell::new(facts.quota));
             enter(&mut self.order, path, slot);
+            expect_at(&mut self.guesses, path, slot);
             Ok(slot)
         } else {
             Err(TreeNo::Quota)
@@ -158,7 +165,8 @@ impl Tree {
             result ≡ cell_in self.now (governing_in facts_of self.now path) }
     {
         let path = object_at(&self.places, directory).path;
-        cell_at(&self.cells, payer(&self.places, &self.order, path))
+        let payer = payer(&self.places, &self.order, &self.guesses, path);
+        cell_at(&self.cells, payer)
     }
 
     /// The slot of an inferior of the path without children: None exactly where no object is at the path or below it.
@@ -176,8 +184,9 @@ impl Tree {
     {
         let object = object_at(&self.places, slot);
         let above = object.path.above();
-        let payer = payer(&self.places, &self.order, above);
-        let charge = charge_of(&object.facts, level_at(&self.places, &self.order, above));
+        let payer = payer(&self.places, &self.order, &self.guesses, above);
+        let level = level_at(&self.places, &self.order, &self.guesses, above);
+        let charge = charge_of(&object.facts, level);
         give_back_at(&mut self.cells, payer, charge);
         leave(&mut self.order, object.path);
         put(&mut self.places, slot, None);

@@ -30,9 +30,9 @@ its_slot o s n is h = sym (same_Some s.n n (sym (ap (option_map (λ (s : Slot). 
 pub unwrap-requires : goal.unwrap-requires
 unwrap-requires c =
     let (a, at) = there (tree_of c.args.places.now.items) c.requires.kept c.args.path c.requires.there in
-    some_slot c.slot_at.result a.slot (c.slot_at.ensures.slot ∙ c.requires.finds.found c.governing.result c.slot_at.ensures.path ∙ ap (option_map (λ (x : Placed). x.slot)) (ap (get (tree_of c.args.places.now.items)) c.governing.ensures ∙ at))
+    some_slot c.slot_for.result a.slot (c.slot_for.ensures.slot ∙ c.requires.finds.found c.governing.result c.slot_for.ensures.path ∙ ap (option_map (λ (x : Placed). x.slot)) (ap (get (tree_of c.args.places.now.items)) c.governing.ensures ∙ at))
 
 pub returns : goal.returns
 returns c =
     let (a, at) = there (tree_of c.args.places.now.items) c.requires.kept c.args.path c.requires.there in
-    (a, at, its_slot c.slot_at.result c.unwrap.result a.slot c.unwrap.ensures (c.slot_at.ensures.slot ∙ c.requires.finds.found c.governing.result c.slot_at.ensures.path ∙ ap (option_map (λ (x : Placed). x.slot)) (ap (get (tree_of c.args.places.now.items)) c.governing.ensures ∙ at)))
+    (a, at, its_slot c.slot_for.result c.unwrap.result a.slot c.unwrap.ensures (c.slot_for.ensures.slot ∙ c.requires.finds.found c.governing.result c.slot_for.ensures.path ∙ ap (option_map (λ (x : Placed). x.slot)) (ap (get (tree_of c.args.places.now.items)) c.governing.ensures ∙ at)))

@@ -8,9 +8,12 @@ use Rattle.bk_tree.proofs.Indexed.{same_slot}
 use Rattle.bk_tree.proofs.Kept.{finding}
 use Rattle.bk_tree.proofs.tree.Tree.find.Goals as goal
 
+pub slot_for-requires-clause-finds : goal.slot_for-requires-clause-finds
+slot_for-requires-clause-finds c = finding c.self.inside.places.items c.self.inside.cells.items c.self.inside.order.items c.self.inside.free.items _ _ c.self.invariant
+
 pub returns-clause-value : goal.returns-clause-value
 returns-clause-value c =
-    same_slot c.slot_at.result _ (c.slot_at.ensures.slot ∙ (finding c.self.inside.places.items c.self.inside.cells.items c.self.inside.order.items c.self.inside.free.items _ _ c.self.invariant).found c.args.path c.slot_at.ensures.path)
+    same_slot c.slot_for.result _ (c.slot_for.ensures.slot ∙ (finding c.self.inside.places.items c.self.inside.cells.items c.self.inside.order.items c.self.inside.free.items _ _ c.self.invariant).found c.args.path c.slot_for.ensures.path)
     ∙ ap (λ m. option_map slot_of (map.get m c.args.path)) c.self.view_is
 
 pub returns-clause-some : goal.returns-clause-some

@@ -24,14 +24,14 @@ payer-payer-requires-clause-finds c = finding c.self.inside.places.items c.self.
 pub payer-payer-requires-clause-there : goal.payer-payer-requires-clause-there
 payer-payer-requires-clause-there c = subst (λ q. IsSome (get (tree_of c.self.inside.places.items) q)) (sym c.above-above.ensures) (parent_some c.self.inside.places.items c.self.inside.cells.items c.self.inside.order.items c.self.inside.free.items _ _ c.self.invariant c.args.slot.n (leaf_here c.self.inside.places.items c.self.inside.cells.items c.self.inside.order.items c.self.inside.free.items _ _ c.self.invariant c.args.slot.n (subst (λ m. CanGo m c.args.slot.n) (sym c.self.view_is) c.requires) c.object_at-object.result c.object_at-object.ensures))
 
-pub level_at-requires : goal.level_at-requires
-level_at-requires c = finding c.self.inside.places.items c.self.inside.cells.items c.self.inside.order.items c.self.inside.free.items _ _ c.self.invariant
+pub level_at-level-requires-clause-finds : goal.level_at-level-requires-clause-finds
+level_at-level-requires-clause-finds c = finding c.self.inside.places.items c.self.inside.cells.items c.self.inside.order.items c.self.inside.free.items _ _ c.self.invariant
 
 pub give_back_at-requires : goal.give_back_at-requires
 give_back_at-requires c = (
   (cell_in (tree_of c.self.inside.places.items) (governing_in facts_of (tree_of c.self.inside.places.items) (parent c.object_at-object.result.path))),
   (paying c.self.inside.places.items c.self.inside.cells.items c.self.inside.order.items c.self.inside.free.items _ _ c.self.invariant (parent c.object_at-object.result.path) c.payer-payer.result.n (subst (λ q. (a : Placed) × (get (tree_of c.self.inside.places.items) (governing_in facts_of (tree_of c.self.inside.places.items) q) ≡ Some a) × (a.slot ≡ c.payer-payer.result.n)) c.above-above.ensures c.payer-payer.ensures)),
-  covered c.self.inside.places.items c.self.inside.cells.items c.self.inside.order.items c.self.inside.free.items _ _ c.self.invariant c.args.slot.n (leaf_here c.self.inside.places.items c.self.inside.cells.items c.self.inside.order.items c.self.inside.free.items _ _ c.self.invariant c.args.slot.n (subst (λ m. CanGo m c.args.slot.n) (sym c.self.view_is) c.requires) c.object_at-object.result c.object_at-object.ensures) c.payer-payer.result.n c.charge_of-charge.result (subst (λ q. (a : Placed) × (get (tree_of c.self.inside.places.items) (governing_in facts_of (tree_of c.self.inside.places.items) q) ≡ Some a) × (a.slot ≡ c.payer-payer.result.n)) c.above-above.ensures c.payer-payer.ensures) (c.charge_of-charge.ensures ∙ ap (charge_of c.object_at-object.result.facts) (c.level_at.ensures ∙ ap (level_in facts_of (tree_of c.self.inside.places.items)) c.above-above.ensures)),
+  covered c.self.inside.places.items c.self.inside.cells.items c.self.inside.order.items c.self.inside.free.items _ _ c.self.invariant c.args.slot.n (leaf_here c.self.inside.places.items c.self.inside.cells.items c.self.inside.order.items c.self.inside.free.items _ _ c.self.invariant c.args.slot.n (subst (λ m. CanGo m c.args.slot.n) (sym c.self.view_is) c.requires) c.object_at-object.result c.object_at-object.ensures) c.payer-payer.result.n c.charge_of-charge.result (subst (λ q. (a : Placed) × (get (tree_of c.self.inside.places.items) (governing_in facts_of (tree_of c.self.inside.places.items) q) ≡ Some a) × (a.slot ≡ c.payer-payer.result.n)) c.above-above.ensures c.payer-payer.ensures) (c.charge_of-charge.ensures ∙ ap (charge_of c.object_at-object.result.facts) (c.level_at-level.ensures ∙ ap (level_in facts_of (tree_of c.self.inside.places.items)) c.above-above.ensures)),
 )
 
 pub leave-requires-clause-there : goal.leave-requires-clause-there
@@ -42,7 +42,7 @@ put-requires c = slice_get_within c.self.inside.places.items c.args.slot.n (Some
 
 pub invariant_of-self : goal.invariant_of-self
 invariant_of-self c = whole_less c.self.inside.places.items c.self.inside.cells.items c.self.inside.order.items c.self.inside.free.items _ _ c.self.invariant c.args.slot.n (leaf_here c.self.inside.places.items c.self.inside.cells.items c.self.inside.order.items c.self.inside.free.items _ _ c.self.invariant c.args.slot.n (subst (λ m. CanGo m c.args.slot.n) (sym c.self.view_is) c.requires) c.object_at-object.result c.object_at-object.ensures) c.payer-payer.result.n c.charge_of-charge.result (subst (λ q. (a : Placed) × (get (tree_of c.self.inside.places.items) (governing_in facts_of (tree_of c.self.inside.places.items) q) ≡ Some a) × (a.slot ≡ c.payer-payer.result.n)) c.above-above.ensures c.payer-payer.ensures)
-    (c.charge_of-charge.ensures ∙ ap (charge_of c.object_at-object.result.facts) (c.level_at.ensures ∙ ap (level_in facts_of (tree_of c.self.inside.places.items)) c.above-above.ensures)) c.give_back_at.new.cells.items (c.give_back_at.ensures (cell_in (tree_of c.self.inside.places.items) (governing_in facts_of (tree_of c.self.inside.places.items) (parent c.object_at-object.result.path))) (paying c.self.inside.places.items c.self.inside.cells.items c.self.inside.order.items c.self.inside.free.items _ _ c.self.invariant (parent c.object_at-object.result.path) c.payer-payer.result.n (subst (λ q. (a : Placed) × (get (tree_of c.self.inside.places.items) (governing_in facts_of (tree_of c.self.inside.places.items) q) ≡ Some a) × (a.slot ≡ c.payer-payer.result.n)) c.above-above.ensures c.payer-payer.ensures))) c.leave.new.order.items c.leave.ensures.items
+    (c.charge_of-charge.ensures ∙ ap (charge_of c.object_at-object.result.facts) (c.level_at-level.ensures ∙ ap (level_in facts_of (tree_of c.self.inside.places.items)) c.above-above.ensures)) c.give_back_at.new.cells.items (c.give_back_at.ensures (cell_in (tree_of c.self.inside.places.items) (governing_in facts_of (tree_of c.self.inside.places.items) (parent c.object_at-object.result.path))) (paying c.self.inside.places.items c.self.inside.cells.items c.self.inside.order.items c.self.inside.free.items _ _ c.self.invariant (parent c.object_at-object.result.path) c.payer-payer.result.n (subst (λ q. (a : Placed) × (get (tree_of c.self.inside.places.items) (governing_in facts_of (tree_of c.self.inside.places.items) q) ≡ Some a) × (a.slot ≡ c.payer-payer.result.n)) c.above-above.ensures c.payer-payer.ensures))) c.leave.new.order.items c.leave.ensures.items
     c.put.new.places.items c.put.ensures c.push_free.new.free.items c.push_free.ensures.items _ _ (omega (arith, c.leave.ensures.capacity)) (omega (arith, c.push_free.ensures.capacity))
 
 pub returns : goal.returns
