@@ -63,7 +63,7 @@ fn is_paused_until_its_slot_ends(rt: HostRuntime) -> Result<(), Fail> {
     let objects = with_a_line(&[(0, &ECHO)]);
     let system = system_of(10, &[WITH_A_LINE], &objects);
     let mut run = booted(&rt, rt.alloc(), &system)?;
-    for _ in 0..6 {
+    'turns: for _ in 0..6 {
         run.turn();
     }
     assert_eq!(rt; run.status(&rt, 0), Status9::Running);

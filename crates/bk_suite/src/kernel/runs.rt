@@ -27,6 +27,7 @@ pub(crate) struct Run {
 
 impl Run {
     /// After the slot that comes next.
+    #[tactic(auto, using(crate::proofs::Subjects::slot_kept, crate::proofs::Subjects::slot_fresh))]
     fn slot(self, typed: &[TypedAt], out: &mut MemSink) -> Result<Run, Failed>
         requires subjects { HasSubjects self.kernel.progress.state self.subjects }
         requires fresh { self.kernel.progress.since ≡ 0 }
@@ -42,6 +43,7 @@ impl Run {
     }
 
     /// The next turn, which is subject 0's.
+    #[tactic(auto, using(crate::proofs::Subjects::turn_kept))]
     pub(crate) fn turn(&mut self) -> (Option<ReportItem>, Option<ReportItem>)
         requires { HasSubjects self.old.kernel.progress.state self.old.subjects }
         ensures { HasSubjects self.new.kernel.progress.state self.new.subjects }
@@ -50,6 +52,7 @@ impl Run {
     }
 
     /// The slot ends.
+    #[tactic(auto, using(crate::proofs::Subjects::end_kept))]
     pub(crate) fn end_slot(&mut self)
         requires { HasSubjects self.old.kernel.progress.state self.old.subjects }
         ensures { HasSubjects self.new.kernel.progress.state self.new.subjects }
@@ -58,6 +61,7 @@ impl Run {
     }
 
     /// Whether the subject's process runs.
+    #[tactic(auto, using(crate::proofs::Subjects::has_process))]
     pub(crate) fn status(&self, rt: &impl Ends, subject: u8) -> Status9
         requires { HasSubjects self.now.kernel.progress.state self.now.subjects }
     {
@@ -72,6 +76,7 @@ impl Run {
 }
 
 /// The system at its start, by the bytes of its image.
+#[tactic(auto, using(crate::proofs::Subjects::begun_kept, crate::proofs::Subjects::begun_fresh))]
 pub(crate) fn booted(rt: &impl Ends, alloc: Global, system: &System) -> Result<Run, Fail>
     ensures subjects { IfOk result (λ run. HasSubjects run.kernel.progress.state run.subjects) }
     ensures fresh { IfOk result (λ run. run.kernel.progress.since ≡ 0) }
