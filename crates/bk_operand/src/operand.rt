@@ -227,10 +227,10 @@ pub fn locate<B: Bus>(
     }
 }
 
-// A register's value: R0 to R5 are asked first.
+/// A register's value. R0 to R5 are asked first.
 #[inline(always)]
 #[tactic(auto, unfolding(bk_space::specs::Registers::reg))]
-fn value_in(regs: &Regs, r: u8) -> u16
+pub fn value_in(regs: &Regs, r: u8) -> u16
     requires { r < 8 }
     ensures { result ≡ reg regs.now r }
 {
@@ -241,10 +241,10 @@ fn value_in(regs: &Regs, r: u8) -> u16
     }
 }
 
-// Replaces a register's value: R0 to R5 are asked first.
+/// Replaces a register's value. R0 to R5 are asked first.
 #[inline(always)]
 #[tactic(auto, unfolding(bk_space::specs::Registers::with_reg))]
-fn put_in(regs: &mut Regs, r: u8, value: u16)
+pub fn put_in(regs: &mut Regs, r: u8, value: u16)
     requires { r < 8 }
     ensures { regs.new ≡ with_reg regs.old r value }
 {
