@@ -19,7 +19,7 @@ use Rattle.bk_tree.proofs.Smaller.{bare, governing-same, has_cell-same, level-sa
 use Rattle.bk_tree.proofs.Added.{apart_paths, new_share, smaller, used-added, used_free}
 use Rattle.bk_tree.proofs.Keeping.{alone, bigger, row-closed, used_alone, smaller as row-smaller}
 use Rattle.bk_tree.proofs.Room.{governing-has_cell}
-use Rattle.bk_tree.proofs.Changed.{set-same, set-other}
+use Rattle.bk_tree.proofs.Written.{set-same, set-other}
 
 -- a cell with this limit, of which so much is used
 abbrev pub usage : (limit used : ℕ) → Usage

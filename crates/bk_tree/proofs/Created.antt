@@ -25,7 +25,8 @@ use Rattle.bk_tree.proofs.Smaller.{charge_by, charge_is, level_at, upgraded_at}
 use Rattle.bk_tree.proofs.Added.{kept-added, still_there}
 use Rattle.bk_tree.proofs.Fitting.{objects_kept}
 use Rattle.bk_tree.proofs.Sums.{ones}
-use Rattle.bk_tree.proofs.Changed.{same_or_not, set-same, set-other, held, held_path, elsewhere}
+use Rattle.bk_tree.proofs.Changed.{held, held_path, elsewhere}
+use Rattle.bk_tree.proofs.Written.{same_or_not, set-same, set-other}
 use Rattle.bk_tree.proofs.Counted.{distinct_entries, full_total}
 
 charge_some : (kind : Kind) (blocks level quota above : ℕ) → HasBlocks kind blocks → HasQuota (is_directory kind && not (above == level)) quota → 1 ≤ charge_by kind blocks level quota above

@@ -4,13 +4,17 @@ pub mod Smaller
 pub mod Room
 pub mod Added
 pub mod Keeping
+pub mod Written
 pub mod Changed
 pub mod Counted
 pub mod Fitting
 pub mod Created
 pub mod Tested
 pub mod OrderLemmas
+pub mod Ranks
 pub mod Indexed
+pub mod Leaves
 pub mod CellLemmas
 pub mod Vacant
 pub mod Kept
+pub mod Gone

@@ -8,7 +8,7 @@ use Rattle.bk_tree.specs.declared.place.Object.{Object}
 use Rattle.bk_tree.specs.Down.{down_to_1}
 use Rattle.bk_tree.specs.Places.{IsFull}
 use Rattle.bk_tree.specs.Whole.{IsVacant}
-use Rattle.bk_tree.proofs.Changed.{same_or_not, set-same, set-other}
+use Rattle.bk_tree.proofs.Written.{same_or_not, set-same, set-other}
 
 -- a list with one more behind it
 front_get : (xs : List ℕ) (x i : ℕ) → i < length xs → slice_get (xs ++ x ∷ []) i ≡ slice_get xs i

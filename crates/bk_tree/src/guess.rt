@@ -17,14 +17,14 @@ use bk_object::Slot;
 use bk_path::Path;
 
 /// How many guesses there are.
-pub(crate) const GUESSES: u16 = 8192;
+pub(crate) const GUESSES: u16 = 32768;
 
-// Which of the guesses is that for a path's number: the entries, scattered over 12 bits, and whether the depth is odd. So the
-// paths of three entries have a guess each, and none of them shares it with one of two.
+// Which of the guesses is that for a path's number: of the 4,096 for its depth, the entries scattered over 12 bits. So each path
+// of at most three entries has a guess of its own, which root's, being 0 from the first, never loses.
 fn guess_of(key: u32) -> usize
-    ensures { result < 8192 }
+    ensures { result < 32768 }
 {
-    ((key / 8).wrapping_mul(2_654_435_769) / 65536 % 4096 + 4096 * (key % 2)) as usize
+    ((key / 8).wrapping_mul(2_654_435_769) / 65536 % 4096 + 4096 * (key % 8)) as usize
 }
 
 // The object of the path is guessed at the slot from now on.

@@ -2,8 +2,9 @@ use Rattle.std.proofs.Common.{◌≡◌, ◌∙◌, ◌-◌, ◌≤◌, get_or, 
 use Rattle.std.proofs.lemmas.Option.{IfSome_then}
 use Rattle.bk_tree.specs.declared.order.Entry.{Entry}
 use Rattle.bk_tree.specs.Order.{rank, IsLastOf}
-use Rattle.bk_tree.proofs.Indexed.{none_then}
-use Rattle.bk_tree.proofs.OrderLemmas.{last_none, last_some, none_behind, rising_from}
+use Rattle.bk_tree.proofs.Leaves.{none_then}
+use Rattle.bk_tree.proofs.OrderLemmas.{rising_from}
+use Rattle.bk_tree.proofs.Ranks.{last_none, last_some, none_behind}
 use Rattle.bk_tree.proofs.order.last_inferior.Goals as goal
 
 pub returns-then-end-eq0-clause-none : goal.returns-then-end-eq0-clause-none

@@ -2,7 +2,8 @@ use Rattle.std.proofs.Common.{◌≡◌, ◌≤◌, true, false, nat_lt, length,
 use Rattle.std.specs.List.Sorted.{IsNonDecreasingBy, IsPartitionPoint}
 use Rattle.std.proofs.lemmas.List.Sorted.{IsPartitionPoint-from_clause, IsPartitionedBy-ltb}
 use Rattle.bk_tree.specs.declared.order.Entry.{Entry}
-use Rattle.bk_tree.proofs.OrderLemmas.{rank-point, rises, rising_from}
+use Rattle.bk_tree.proofs.OrderLemmas.{rising_from}
+use Rattle.bk_tree.proofs.Ranks.{rank-point, rises}
 use Rattle.bk_tree.proofs.order.rank.Goals as goal
 
 pub returns-clause-value : goal.returns-clause-value

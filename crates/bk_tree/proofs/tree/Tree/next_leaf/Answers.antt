@@ -2,7 +2,7 @@ use Rattle.std.proofs.Common.{subst}
 use Rattle.std.proofs.lemmas.Option.{IfSome_then}
 use Rattle.bk_tree.specs.Objects.{HasNone, IsLeafOf}
 use Rattle.bk_tree.specs.Places.{tree_of}
-use Rattle.bk_tree.proofs.Indexed.{leaf_of, none_exactly, none_of, none_then}
+use Rattle.bk_tree.proofs.Leaves.{leaf_of, none_exactly, none_of, none_then}
 use Rattle.bk_tree.proofs.tree.Tree.next_leaf.Goals as goal
 
 pub returns-clause-some : goal.returns-clause-some

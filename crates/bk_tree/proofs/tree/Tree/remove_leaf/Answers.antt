@@ -10,7 +10,8 @@ use Rattle.bk_tree.specs.Kept.{cell_in}
 use Rattle.bk_tree.specs.Places.{tree_of}
 use Rattle.bk_tree.proofs.Changed.{leaf-map}
 use Rattle.bk_tree.proofs.Found.{stands}
-use Rattle.bk_tree.proofs.Kept.{covered, finding, leaf_here, leaf_listed, parent_some, paying, room_push, whole_less}
+use Rattle.bk_tree.proofs.Kept.{finding, paying}
+use Rattle.bk_tree.proofs.Gone.{covered, leaf_here, leaf_listed, parent_some, room_push, whole_less}
 use Rattle.bk_tree.proofs.tree.Tree.remove_leaf.Goals as goal
 
 pub object_at-object-requires : goal.object_at-object-requires
