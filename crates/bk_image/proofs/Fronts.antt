@@ -8,18 +8,19 @@ use Rattle.bk_state.specs.declared.image.Hold.{Hold}
 use Rattle.bk_state.specs.declared.image.ObjectRec.{ObjectRec}
 use Rattle.bk_state.specs.declared.image.SubjectRec.{SubjectRec}
 use Rattle.bk_state.specs.declared.image.WindowRec.{WindowRec}
-use Rattle.bk_object.specs.Rows.{most_subjects}
 use Rattle.bk_level.specs.Levels.{most_levels}
 use Rattle.bk_image.specs.Limits.{most_bytes}
 use Rattle.bk_state.specs.Limits.{most_turns, most_lines, most_places, most_objects, most_holds}
 use Rattle.bk_image.specs.declared.fault.ImageField.{ImageField}
 use Rattle.bk_image.specs.declared.fault.ImageField.TheVariants as field
+use Rattle.bk_image.specs.declared.version.Version.{Version}
+use Rattle.bk_image.specs.Versions.{version_of, subjects_of, level_size, record_size}
 use Rattle.bk_image.specs.Parts.{Rest, from, Reads, image_format, ◌>>=◌, first_failing, part, checked, each_of, is_outside}
 use Rattle.bk_image.specs.Numbers.{byte, word, words_of, path_in}
 use Rattle.bk_image.specs.Header.{is_magic, magic_at, byte_at, word_at, header_at}
-use Rattle.bk_image.specs.Subjects.{level_of, level_checks, level_at, schedule_checks, schedule_at, window_of, window_checks, window_at, subject_of}
+use Rattle.bk_image.specs.Subjects.{level_of, level_checks, level_at, after_levels, schedule_checks, schedule_at, window_of, window_checks, window_at, subject_of}
 use Rattle.bk_image.specs.Subjects.{subject_fails, subject_at}
-use Rattle.bk_image.specs.Objects.{Objects, objects_in, object_of, object_fails, words_checks, object_at, after_objects}
+use Rattle.bk_image.specs.Objects.{Objects, objects_in, object_of, count_in, object_fails, words_checks, object_at, after_objects}
 use Rattle.bk_image.specs.Holds.{hold_of, hold_checks, hold_at}
 use Rattle.bk_image.specs.Image.{image_at, image_of, IsImage}
 use Rattle.bk_base.proofs.Fronts.{Framed, Answers, OfFronts, fronts_then, fronts_checked, fronts_done, fronts_each, fronts_part, fronts_of_checked, first_again}
@@ -40,9 +41,9 @@ word_fronts : (f : ImageField) (low high : ℕ) → OfFronts most_bytes (word_at
 unfolding word_at
 word_fronts f low high = fronts_of_checked image_format 2 (λ b. (f, is_outside low high (word b 0)) ∷ []) (λ b. word b 0)
 
-level_fronts : (before : List Level) → OfFronts most_bytes (level_at before)
+level_fronts : (version : Version) (before : List Level) → OfFronts most_bytes (level_at version before)
 unfolding level_at
-level_fronts before = fronts_of_checked image_format 4 (λ b. level_checks before (byte b 1 == 0) (level_of b)) level_of
+level_fronts version before = fronts_of_checked image_format (level_size version) (λ b. level_checks before (byte b 1 == 0) (level_of b)) level_of
 
 schedule_fronts : (subjects : ℕ) (before : List ℕ) → OfFronts most_bytes (schedule_at subjects before)
 unfolding schedule_at
@@ -63,27 +64,27 @@ subject_fronts levels before at =
     fronts_then most_bytes next (λ bytes. each_of window_at (byte b 38) [] (from next bytes)) (λ windows. Ok (subject_of b windows.0, windows.1)) (fronts_each most_bytes window_at window_fronts (byte b 38) [] next) (λ windows end.
     fronts_done most_bytes end (subject_of b windows)))
 
-object_fronts : (levels : List Level) (subjects lines : ℕ) (before : List ObjectRec) → OfFronts most_bytes (object_at levels subjects lines before)
+object_fronts : (version : Version) (levels : List Level) (subjects lines : ℕ) (before : List ObjectRec) → OfFronts most_bytes (object_at version levels subjects lines before)
 unfolding object_at
-object_fronts levels subjects lines before at =
-    let words : List ℕ → List ℕ × Rest → Reads ObjectRec = λ b w. first_failing at (words_checks (words_of w.0)) >>= λ passed. Ok (object_of b (words_of w.0), w.1) in
-    fronts_then most_bytes at (λ bytes. checked 28 (object_fails levels subjects lines before) (λ b. b) (from at bytes)) (λ b. part (2 * word b.0 26) b.1 >>= words b.0) (fronts_of_checked image_format 28 (object_fails levels subjects lines before) (λ b. b) at) (λ b next.
-    fronts_then most_bytes next (λ bytes. part (2 * word b 26) (from next bytes)) (words b) (fronts_part image_format (2 * word b 26) next) (λ w end.
-    fronts_checked most_bytes end (first_failing at (words_checks (words_of w))) (λ bytes. Ok (object_of b (words_of w), from end bytes)) (fronts_done most_bytes end (object_of b (words_of w)))))
+object_fronts version levels subjects lines before at =
+    let words : List ℕ → List ℕ × Rest → Reads ObjectRec = λ b w. first_failing at (words_checks (words_of w.0)) >>= λ passed. Ok (object_of version b (words_of w.0), w.1) in
+    fronts_then most_bytes at (λ bytes. checked (record_size version) (object_fails version levels subjects lines before) (λ b. b) (from at bytes)) (λ b. part (2 * count_in version b.0) b.1 >>= words b.0) (fronts_of_checked image_format (record_size version) (object_fails version levels subjects lines before) (λ b. b) at) (λ b next.
+    fronts_then most_bytes next (λ bytes. part (2 * count_in version b) (from next bytes)) (words b) (fronts_part image_format (2 * count_in version b) next) (λ w end.
+    fronts_checked most_bytes end (first_failing at (words_checks (words_of w))) (λ bytes. Ok (object_of version b (words_of w), from end bytes)) (fronts_done most_bytes end (object_of version b (words_of w)))))
 
 header_fronts : OfFronts most_bytes header_at
 unfolding header_at
 header_fronts at =
     fronts_then most_bytes at (λ bytes. magic_at (from at bytes)) step.from_magic (magic_fronts at) (λ m at.
-    fronts_then most_bytes at (λ bytes. word_at field.Version 1 1 (from at bytes)) step.from_version (word_fronts field.Version 1 1 at) (λ v at.
-    fronts_then most_bytes at (λ bytes. word_at field.Turns 1 most_turns (from at bytes)) step.from_turns (word_fronts field.Turns 1 most_turns at) (λ t at.
-    fronts_then most_bytes at (λ bytes. byte_at field.Counts 1 most_levels (from at bytes)) (step.from_levels t) (byte_fronts field.Counts 1 most_levels at) (λ l at.
-    fronts_then most_bytes at (λ bytes. byte_at field.Counts 1 most_subjects (from at bytes)) (step.from_subjects t l) (byte_fronts field.Counts 1 most_subjects at) (λ s at.
-    fronts_then most_bytes at (λ bytes. byte_at field.Counts 0 most_lines (from at bytes)) (step.from_lines t l s) (byte_fronts field.Counts 0 most_lines at) (λ n at.
-    fronts_then most_bytes at (λ bytes. byte_at field.Counts 1 most_places (from at bytes)) (step.from_schedule t l s n) (byte_fronts field.Counts 1 most_places at) (λ c at.
-    fronts_then most_bytes at (λ bytes. word_at field.Counts 1 most_objects (from at bytes)) (step.from_objects t l s n c) (word_fronts field.Counts 1 most_objects at) (λ o at.
-    fronts_then most_bytes at (λ bytes. word_at field.Counts 0 most_holds (from at bytes)) (step.from_holds t l s n c o) (word_fronts field.Counts 0 most_holds at) (λ h at.
-    fronts_done most_bytes at (step.counted t l s n c o h))))))))))
+    fronts_then most_bytes at (λ bytes. word_at field.Version 1 2 (from at bytes)) step.from_version (word_fronts field.Version 1 2 at) (λ v at.
+    fronts_then most_bytes at (λ bytes. word_at field.Turns 1 most_turns (from at bytes)) (step.from_turns (version_of v)) (word_fronts field.Turns 1 most_turns at) (λ t at.
+    fronts_then most_bytes at (λ bytes. byte_at field.Counts 1 most_levels (from at bytes)) (step.from_levels (version_of v) t) (byte_fronts field.Counts 1 most_levels at) (λ l at.
+    fronts_then most_bytes at (λ bytes. byte_at field.Counts 1 (subjects_of (version_of v)) (from at bytes)) (step.from_subjects (version_of v) t l) (byte_fronts field.Counts 1 (subjects_of (version_of v)) at) (λ s at.
+    fronts_then most_bytes at (λ bytes. byte_at field.Counts 0 most_lines (from at bytes)) (step.from_lines (version_of v) t l s) (byte_fronts field.Counts 0 most_lines at) (λ n at.
+    fronts_then most_bytes at (λ bytes. byte_at field.Counts 1 most_places (from at bytes)) (step.from_schedule (version_of v) t l s n) (byte_fronts field.Counts 1 most_places at) (λ c at.
+    fronts_then most_bytes at (λ bytes. word_at field.Counts 1 most_objects (from at bytes)) (step.from_objects (version_of v) t l s n c) (word_fronts field.Counts 1 most_objects at) (λ o at.
+    fronts_then most_bytes at (λ bytes. word_at field.Counts 0 most_holds (from at bytes)) (step.from_holds (version_of v) t l s n c o) (word_fronts field.Counts 0 most_holds at) (λ h at.
+    fronts_done most_bytes at (step.counted (version_of v) t l s n c o h))))))))))
 
 -- ---- the image
 
@@ -91,13 +92,14 @@ pub image_at_fronts : OfFronts most_bytes image_at
 unfolding image_at
 image_at_fronts at =
     fronts_then most_bytes at (λ bytes. header_at (from at bytes)) step.image_from_header (header_fronts at) (λ h at.
-    fronts_then most_bytes at (λ bytes. each_of level_at h.levels [] (from at bytes)) (step.image_from_levels h) (fronts_each most_bytes level_at level_fronts h.levels [] at) (λ l at.
-    fronts_then most_bytes at (λ bytes. each_of (schedule_at h.subjects) h.schedule [] (from at bytes)) (step.image_from_schedule h l) (fronts_each most_bytes (schedule_at h.subjects) (schedule_fronts h.subjects) h.schedule [] at) (λ c at.
+    fronts_then most_bytes at (λ bytes. each_of (level_at h.version) h.levels [] (from at bytes)) (step.image_from_levels h) (fronts_each most_bytes (level_at h.version) (level_fronts h.version) h.levels [] at) (λ l at.
+    fronts_checked most_bytes at (after_levels h.version h.subjects l) (λ bytes. step.image_from_said h l (from at bytes))
+    (fronts_then most_bytes at (λ bytes. each_of (schedule_at h.subjects) h.schedule [] (from at bytes)) (step.image_from_schedule h l) (fronts_each most_bytes (schedule_at h.subjects) (schedule_fronts h.subjects) h.schedule [] at) (λ c at.
     fronts_then most_bytes at (λ bytes. each_of (subject_at l) h.subjects [] (from at bytes)) (step.image_from_subjects h l c) (fronts_each most_bytes (subject_at l) (subject_fronts l) h.subjects [] at) (λ s start.
-    fronts_then most_bytes start (λ bytes. each_of (object_at l h.subjects h.lines) h.objects [] (from start bytes)) (step.image_from_objects h l c s start) (fronts_each most_bytes (object_at l h.subjects h.lines) (object_fronts l h.subjects h.lines) h.objects [] start) (λ o at.
-    fronts_checked most_bytes at (after_objects h.lines o start) (λ bytes. step.image_from_checks h l c s o (from at bytes))
+    fronts_then most_bytes start (λ bytes. each_of (object_at h.version l h.subjects h.lines) h.objects [] (from start bytes)) (step.image_from_objects h l c s start) (fronts_each most_bytes (object_at h.version l h.subjects h.lines) (object_fronts h.version l h.subjects h.lines) h.objects [] start) (λ o at.
+    fronts_checked most_bytes at (after_objects h.version h.lines o start) (λ bytes. step.image_from_checks h l c s o (from at bytes))
     (fronts_then most_bytes at (λ bytes. each_of (hold_at l s (objects_in o)) h.holds [] (from at bytes)) (step.image_from_holds h l c s o) (fronts_each most_bytes (hold_at l s (objects_in o)) (hold_fronts l s (objects_in o)) h.holds [] at) (λ d at.
-    fronts_done most_bytes at (step.made h.turns h.lines l c s o d))))))))
+    fronts_done most_bytes at (step.made h.turns h.lines l c s o d)))))))))
 
 -- an image that was read took a front of the bytes
 pub image_framed : (bytes : List ℕ) (x : Image × Rest) → image_at (from 0 bytes) ≡ Ok x → Framed most_bytes 0 (λ b. image_at (from 0 b)) bytes x

@@ -18,10 +18,12 @@ pub mod SecureSubjects
 pub mod SecureShape
 pub mod Secure
 pub mod PassedParts
+pub mod Headers
 pub mod PassedKinds
 pub mod Passed
 pub mod Only
 pub mod OnlyObjects
 pub mod OnlyImage
 pub mod Written
+pub mod VersionLaws
 pub mod PutLemmas

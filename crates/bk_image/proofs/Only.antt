@@ -1,12 +1,17 @@
 -- What is spelt is read as itself, if it is read.
-use Rattle.std.proofs.Common.{◌≡◌, ℕ, ◌+◌, ◌*◌, ◌/◌, ◌%◌, List, [], ◌∷◌, ◌++◌, length, take, drop, Result, Ok, Err, refl, sym, ap, subst, ◌∙◌, append_assoc}
+use Rattle.std.proofs.Common.{◌≡◌, ℕ, ◌+◌, ◌*◌, ◌/◌, ◌%◌, ◌^◌, true, List, [], ◌∷◌, ◌++◌, length, take, drop, Result, Ok, Err, refl, sym, ap, subst, ◌∙◌, append_assoc}
 use Rattle.std.proofs.Common.{arith, ◌==◌}
-use Rattle.std.specs.Prelude.{not, is_none, unwrap_or, flat_map, All}
+use Rattle.std.specs.Prelude.{not, nat_lt, is_none, unwrap_or, flat_map, All}
+use Rattle.std.specs.List.{list_all}
+use Rattle.std.proofs.lemmas.Bool.{and_parts}
+use Rattle.std.proofs.lemmas.Bool.Decides.{nat_tests}
 use Rattle.std.proofs.lemmas.List.{append-nil, take_at, drop_at}
 use Rattle.std.proofs.lemmas.List.Concat.{flat_map-cons}
 use Rattle.std.proofs.lemmas.List.Elements.{All-head, All-tail}
-use Rattle.bk_level.specs.Levels.{Level}
-use Rattle.bk_level.specs.Masks.{mask_of, categories_of}
+use Rattle.bk_level.specs.Levels.{Level, has_only_below}
+use Rattle.bk_level.specs.Masks.{mask_of, mask_in, categories_of}
+use Rattle.bk_level.specs.Masks as masks
+use Rattle.bk_level.proofs.MaskLemmas.{only_first}
 use Rattle.bk_path.specs.Paths.{Path, IsPath, pack, unpack}
 use Rattle.bk_path.proofs.PathLemmas.{unpack-pack}
 use Rattle.bk_space.specs.declared.Mode.{Mode}
@@ -16,6 +21,9 @@ use Rattle.bk_state.specs.declared.image.SubjectRec.{SubjectRec}
 use Rattle.bk_state.specs.declared.image.WindowRec.{WindowRec}
 use Rattle.bk_image.specs.declared.fault.ImageFault.{ImageFault}
 use Rattle.bk_image.specs.declared.fault.ImageField.{ImageField}
+use Rattle.bk_image.specs.declared.version.Version.{Version}
+use Rattle.bk_image.specs.declared.version.Version.TheVariants.{One, Two}
+use Rattle.bk_image.specs.Versions.{category_words, level_size}
 use Rattle.bk_image.specs.Parts.{Rest, Reads, Check, ◌>>=◌, first_failing, part, checked, each_of, is_outside}
 use Rattle.bk_image.specs.Numbers.{byte, word, words_of, path_in}
 use Rattle.bk_image.specs.Header.{byte_at, word_at}
@@ -120,12 +128,42 @@ schedule_only subjects before x fit at more = checked_only 1 (λ b. schedule_che
 
 -- ---- levels, windows, holds
 
-pub level_only : (before : List Level) → Rereads LevelFits level_bytes (level_at before)
+-- what is asked of a level for its spelling to be read as itself: in version 1, that it has only categories below 16
+abbrev pub LevelIsSpelt : Version → Level → Type 0
+LevelIsSpelt One level = LevelFits level × (has_only_below 16 level ≡ true)
+LevelIsSpelt Two level = LevelFits level
+
+-- the words of a mask make it again, in version 1 where the categories are below 16
+mask_again : (version : Version) (level : Level) → LevelIsSpelt version level → mask_in (words_of (words_bytes (take (category_words version) (masks.words_of (mask_of level.categories))))) ≡ mask_of level.categories
+mask_again One level fit =
+    let mask = mask_of level.categories in
+    let x = mask % 2 ^ 16 in
+    let y = mask / 2 ^ 16 % 2 ^ 16 in
+    let z = mask / 2 ^ 32 % 2 ^ 16 in
+    let small = fit.0.small in
+    let same : mask_in (x ∷ y ∷ z ∷ []) ≡ mask = omega (arith, small) in
+    let first : list_all (λ category. nat_lt category 16) (categories_of (mask_in (x ∷ y ∷ z ∷ []))) ≡ true = ap (λ m. list_all (λ category. nat_lt category 16) (categories_of m)) same ∙ ap (λ categories. list_all (λ category. nat_lt category 16) categories) fit.0.back ∙ fit.1 in
+    let none = and_parts (y == 0) (z == 0) (only_first x y z (omega arith) (omega arith) (omega arith) ∙ first) in
+    let second : y ≡ 0 = grind (arith, nat_tests, none.0) in
+    let third : z ≡ 0 = grind (arith, nat_tests, none.1) in
+    ap mask_in (words_again (x ∷ [])) ∙ omega (arith, same, second, third)
+mask_again Two level fit =
+    let small = fit.small in
+    ap mask_in (words_again (masks.words_of (mask_of level.categories))) ∙ omega (arith, small)
+
+level_fits : (version : Version) (level : Level) → LevelIsSpelt version level → LevelFits level
+level_fits One level fit = fit.0
+level_fits Two level fit = fit
+
+pub level_only : (version : Version) (before : List Level) → Rereads (LevelIsSpelt version) (level_bytes version) (level_at version before)
 unfolding level_at
-level_only before x fit at more =
-    let mask = mask_of x.categories in
-    checked_only 4 (λ b. level_checks before (byte b 1 == 0) (level_of b)) level_of x at (level_bytes x) more refl
-    (λ i. record { class = x.class; categories = (ap categories_of (word_back mask) ∙ fit) i })
+level_only version before x fit at more =
+    checked_only (level_size version) (λ b. level_checks before (byte b 1 == 0) (level_of b)) level_of x at (level_bytes version x) more (size version)
+    (λ i. record { class = x.class; categories = (ap categories_of (mask_again version x fit) ∙ (level_fits version x fit).back) i })
+  where
+    size : (v : Version) → length (level_bytes v x) ≡ level_size v
+    size One = refl
+    size Two = refl
 
 pub window_only : (before : List WindowRec) → Rereads WindowFits window_bytes (window_at before)
 unfolding window_at path_bytes

@@ -1,5 +1,5 @@
 -- An image that was read is accepted, and its state is secure.
-use Rattle.std.proofs.Common.{◌≡◌, ℕ, ◌≤◌, true, List, [], ◌∷◌, ◌++◌, length, Result, Ok, Err, sym, subst}
+use Rattle.std.proofs.Common.{◌≡◌, ℕ, ◌≤◌, true, List, [], ◌∷◌, ◌++◌, length, Result, Ok, Err, sym, subst, arith}
 use Rattle.std.specs.Prelude.{IfOk}
 use Rattle.bk_level.specs.Levels.{Level}
 use Rattle.bk_state.specs.Secure.{Secure}
@@ -8,60 +8,25 @@ use Rattle.bk_state.specs.declared.image.Image.{Image}
 use Rattle.bk_state.specs.declared.image.Hold.{Hold}
 use Rattle.bk_state.specs.declared.image.ObjectRec.{ObjectRec}
 use Rattle.bk_state.specs.declared.image.SubjectRec.{SubjectRec}
-use Rattle.bk_object.specs.Rows.{most_subjects}
-use Rattle.bk_level.specs.Levels.{most_levels}
-use Rattle.bk_state.specs.Limits.{most_turns, most_lines, most_places, most_objects, most_holds}
-use Rattle.bk_image.specs.declared.fault.ImageField.TheVariants as field
 use Rattle.bk_base.specs.declared.stop.Stop.{Stop}
 use Rattle.bk_image.specs.declared.fault.ImageFault.{ImageFault}
 use Rattle.bk_image.specs.Parts.{Rest, Gives, Passes, each_of}
-use Rattle.bk_image.specs.Header.{Header, magic_at, byte_at, word_at, header_at}
-use Rattle.bk_image.specs.Subjects.{level_checks, level_at, schedule_checks, schedule_at, subject_at}
+use Rattle.bk_image.specs.declared.version.Version.{Version}
+use Rattle.bk_image.specs.declared.version.Version.TheVariants.{One, Two}
+use Rattle.bk_image.specs.Header.{Header, header_at}
+use Rattle.bk_image.specs.Versions.{subjects_of}
+use Rattle.bk_image.specs.Subjects.{level_checks, level_at, after_levels, schedule_checks, schedule_at, subject_at}
 use Rattle.bk_image.specs.Objects.{objects_in, object_at, after_objects}
 use Rattle.bk_image.specs.Holds.{hold_checks, hold_at}
 use Rattle.bk_image.specs.Image.{image_at, image_of}
 use Rattle.bk_image.specs.Accepted.{IsAccepted}
 use Rattle.bk_base.proofs.FaultLemmas.{bind_ok, ok_is}
 use Rattle.bk_image.proofs.Steps as step
-use Rattle.bk_image.proofs.PassedParts.{byte_within, word_within, each_read}
+use Rattle.bk_image.proofs.PassedParts.{each_read}
 use Rattle.bk_image.proofs.PassedKinds.{level_passed, schedule_passed, SubjectPassed, subject_passed, ObjectPassed, object_passed, hold_passed, AfterPassed}
 use Rattle.bk_image.proofs.PassedKinds.{after_passed}
 use Rattle.bk_image.proofs.Secure.{accepted_secure}
-
--- ---- the header
-
--- the turns and the counts are in their ranges
-pub record HeaderCounted (h : Header) : Type 0 where
-  pub turns : (1 ≤ h.turns) × (h.turns ≤ 4096)
-  pub levels : (1 ≤ h.levels) × (h.levels ≤ 64)
-  pub subjects : (1 ≤ h.subjects) × (h.subjects ≤ 32)
-  pub lines : (0 ≤ h.lines) × (h.lines ≤ 16)
-  pub schedule : (1 ≤ h.schedule) × (h.schedule ≤ 64)
-  pub objects : (1 ≤ h.objects) × (h.objects ≤ 3904)
-  pub holds : (0 ≤ h.holds) × (h.holds ≤ 65535)
-
-header_counted : (rest : Rest) (x : Header × Rest) → header_at rest ≡ Ok x → HeaderCounted x.0
-unfolding header_at
-header_counted rest x e =
-    let m = bind_ok (magic_at rest) step.from_magic x e in
-    let v = bind_ok (word_at field.Version 1 1 m.0.1) step.from_version x m.2 in
-    let t = bind_ok (word_at field.Turns 1 most_turns v.0.1) step.from_turns x v.2 in
-    let l = bind_ok (byte_at field.Counts 1 most_levels t.0.1) (step.from_levels t.0.0) x t.2 in
-    let s = bind_ok (byte_at field.Counts 1 most_subjects l.0.1) (step.from_subjects t.0.0 l.0.0) x l.2 in
-    let n = bind_ok (byte_at field.Counts 0 most_lines s.0.1) (step.from_lines t.0.0 l.0.0 s.0.0) x s.2 in
-    let c = bind_ok (byte_at field.Counts 1 most_places n.0.1) (step.from_schedule t.0.0 l.0.0 s.0.0 n.0.0) x n.2 in
-    let o = bind_ok (word_at field.Counts 1 most_objects c.0.1) (step.from_objects t.0.0 l.0.0 s.0.0 n.0.0 c.0.0) x c.2 in
-    let h = bind_ok (word_at field.Counts 0 most_holds o.0.1) (step.from_holds t.0.0 l.0.0 s.0.0 n.0.0 c.0.0 o.0.0) x o.2 in
-    let q = ok_is (step.counted t.0.0 l.0.0 s.0.0 n.0.0 c.0.0 o.0.0 h.0.0, h.0.1) x h.2 in
-    subst (λ (y : Header × Rest). HeaderCounted y.0) q (record {
-      turns = word_within field.Turns 1 most_turns v.0.1 t.0 t.1;
-      levels = byte_within field.Counts 1 most_levels t.0.1 l.0 l.1;
-      subjects = byte_within field.Counts 1 most_subjects l.0.1 s.0 s.1;
-      lines = byte_within field.Counts 0 most_lines s.0.1 n.0 n.1;
-      schedule = byte_within field.Counts 1 most_places n.0.1 c.0 c.1;
-      objects = word_within field.Counts 1 most_objects c.0.1 o.0 o.1;
-      holds = word_within field.Counts 0 most_holds o.0.1 h.0 h.1;
-    })
+use Rattle.bk_image.proofs.Headers.{HeaderCounted, header_counted}
 
 -- ---- the image
 
@@ -79,6 +44,11 @@ pub record PartsRead (h : Header) (levels : List Level) (schedule : List ℕ) (s
   pub after : AfterPassed h.lines objects
   pub holds_read : ReadAs (λ before hold. Passes (hold_checks levels subjects (objects_in objects) before true hold)) h.holds holds
 
+-- a version has at most 64 subjects
+few : (version : Version) → subjects_of version ≤ 64
+few One = omega arith
+few Two = omega arith
+
 accepted_parts : (h : Header) (levels : List Level) (schedule : List ℕ) (subjects : List SubjectRec) (objects : List ObjectRec) (holds : List Hold) →
     PartsRead h levels schedule subjects objects holds → IsAccepted (step.made h.turns h.lines levels schedule subjects objects holds)
 accepted_parts h levels schedule subjects objects holds p =
@@ -90,7 +60,7 @@ accepted_parts h levels schedule subjects objects holds p =
         some_levels = subst (λ n. 1 ≤ n) (sym p.levels_read.0) p.header.levels.0;
         levels = subst (λ n. n ≤ 64) (sym p.levels_read.0) p.header.levels.1;
         some_subjects = subst (λ n. 1 ≤ n) (sym count) p.header.subjects.0;
-        subjects = subst (λ n. n ≤ 32) (sym count) p.header.subjects.1;
+        subjects = subst (λ n. n ≤ 64) (sym count) (omega (arith, p.header.subjects.1, few h.version));
         lines = p.header.lines.1;
         some_places = subst (λ n. 1 ≤ n) (sym p.schedule_read.0) p.header.schedule.0;
         places = subst (λ n. n ≤ 64) (sym p.schedule_read.0) p.header.schedule.1;
@@ -117,20 +87,21 @@ image_passed : (rest : Rest) (x : Image × Rest) → image_at rest ≡ Ok x → 
 unfolding image_at
 image_passed rest x e =
     let h = bind_ok (header_at rest) step.image_from_header x e in
-    let l = bind_ok (each_of level_at h.0.0.levels [] h.0.1) (step.image_from_levels h.0.0) x h.2 in
-    let c = bind_ok (each_of (schedule_at h.0.0.subjects) h.0.0.schedule [] l.0.1) (step.image_from_schedule h.0.0 l.0.0) x l.2 in
+    let l = bind_ok (each_of (level_at h.0.0.version) h.0.0.levels [] h.0.1) (step.image_from_levels h.0.0) x h.2 in
+    let v = bind_ok (after_levels h.0.0.version h.0.0.subjects l.0.0) (λ said. step.image_from_said h.0.0 l.0.0 l.0.1) x l.2 in
+    let c = bind_ok (each_of (schedule_at h.0.0.subjects) h.0.0.schedule [] l.0.1) (step.image_from_schedule h.0.0 l.0.0) x v.2 in
     let s = bind_ok (each_of (subject_at l.0.0) h.0.0.subjects [] c.0.1) (step.image_from_subjects h.0.0 l.0.0 c.0.0) x c.2 in
-    let o = bind_ok (each_of (object_at l.0.0 h.0.0.subjects h.0.0.lines) h.0.0.objects [] s.0.1) (step.image_from_objects h.0.0 l.0.0 c.0.0 s.0.0 s.0.1.at) x s.2 in
-    let a = bind_ok (after_objects h.0.0.lines o.0.0 s.0.1.at) (λ passed. step.image_from_checks h.0.0 l.0.0 c.0.0 s.0.0 o.0.0 o.0.1) x o.2 in
+    let o = bind_ok (each_of (object_at h.0.0.version l.0.0 h.0.0.subjects h.0.0.lines) h.0.0.objects [] s.0.1) (step.image_from_objects h.0.0 l.0.0 c.0.0 s.0.0 s.0.1.at) x s.2 in
+    let a = bind_ok (after_objects h.0.0.version h.0.0.lines o.0.0 s.0.1.at) (λ passed. step.image_from_checks h.0.0 l.0.0 c.0.0 s.0.0 o.0.0 o.0.1) x o.2 in
     let d = bind_ok (each_of (hold_at l.0.0 s.0.0 (objects_in o.0.0)) h.0.0.holds [] o.0.1) (step.image_from_holds h.0.0 l.0.0 c.0.0 s.0.0 o.0.0) x a.2 in
     let q = ok_is (step.made h.0.0.turns h.0.0.lines l.0.0 c.0.0 s.0.0 o.0.0 d.0.0, d.0.1) x d.2 in
     subst (λ (y : Image × Rest). IsAccepted y.0) q (accepted_parts h.0.0 l.0.0 c.0.0 s.0.0 o.0.0 d.0.0 (record {
       header = header_counted rest h.0 h.1;
-      levels_read = each_read (λ before level. Passes (level_checks before true level)) level_at level_passed h.0.0.levels h.0.1 l.0 l.1;
+      levels_read = each_read (λ before level. Passes (level_checks before true level)) (level_at h.0.0.version) (level_passed h.0.0.version) h.0.0.levels h.0.1 l.0 l.1;
       schedule_read = each_read (λ before subject. Passes (schedule_checks h.0.0.subjects subject)) (schedule_at h.0.0.subjects) (schedule_passed h.0.0.subjects) h.0.0.schedule l.0.1 c.0 c.1;
       subjects_read = each_read (λ before subject. SubjectPassed l.0.0 subject) (subject_at l.0.0) (subject_passed l.0.0) h.0.0.subjects c.0.1 s.0 s.1;
-      objects_read = each_read (λ before o. ObjectPassed l.0.0 h.0.0.subjects h.0.0.lines before o) (object_at l.0.0 h.0.0.subjects h.0.0.lines) (object_passed l.0.0 h.0.0.subjects h.0.0.lines) h.0.0.objects s.0.1 o.0 o.1;
-      after = after_passed h.0.0.lines o.0.0 s.0.1.at a.0 a.1;
+      objects_read = each_read (λ before o. ObjectPassed l.0.0 h.0.0.subjects h.0.0.lines before o) (object_at h.0.0.version l.0.0 h.0.0.subjects h.0.0.lines) (object_passed h.0.0.version l.0.0 h.0.0.subjects h.0.0.lines) h.0.0.objects s.0.1 o.0 o.1;
+      after = after_passed h.0.0.version h.0.0.lines o.0.0 s.0.1.at a.0 a.1;
       holds_read = each_read (λ before hold. Passes (hold_checks l.0.0 s.0.0 (objects_in o.0.0) before true hold)) (hold_at l.0.0 s.0.0 (objects_in o.0.0)) (hold_passed l.0.0 s.0.0 (objects_in o.0.0)) h.0.0.holds o.0.1 d.0 d.1;
     }))
 

@@ -1,9 +1,8 @@
 -- Of one part of each kind that was read, its checks passed; and those after all objects.
-use Rattle.std.proofs.Common.{◌≡◌, ℕ, ◌+◌, ◌*◌, true, false, not, ◌==◌, List, [], ◌∷◌, ◌++◌, length, take, drop, Ok, refl, sym, subst, arith, length-take}
+use Rattle.std.proofs.Common.{◌≡◌, ℕ, ◌+◌, ◌*◌, ◌≤◌, true, false, not, ◌==◌, List, [], ◌∷◌, ◌++◌, length, take, drop, Ok, refl, sym, subst, arith, length-take}
 use Rattle.std.proofs.Common.{length-drop}
 use Rattle.std.specs.Prelude.{nat_lt, is_none}
 use Rattle.bk_level.specs.Levels.{Level}
-use Rattle.bk_object.specs.Pairs.{split_pairs}
 use Rattle.bk_object.specs.Rows.{most_subjects}
 use Rattle.bk_process.specs.NewProcess.{windows_of_process, entries_of_process, general_registers}
 use Rattle.bk_state.specs.declared.image.Hold.{Hold}
@@ -11,24 +10,27 @@ use Rattle.bk_state.specs.declared.image.ObjectRec.{ObjectRec}
 use Rattle.bk_state.specs.declared.image.SubjectRec.{SubjectRec}
 use Rattle.bk_state.specs.declared.image.WindowRec.{WindowRec}
 use Rattle.bk_image.specs.declared.fault.ImageField.TheVariants as field
+use Rattle.bk_image.specs.declared.version.Version.{Version}
+use Rattle.bk_image.specs.declared.version.Version.TheVariants.{One, Two}
+use Rattle.bk_image.specs.Versions.{bytes_of_row, level_size, record_size}
 use Rattle.bk_image.specs.Parts.{fault_at, Rest, Passes, ◌>>=◌, first_failing, part, checked, each_of}
-use Rattle.bk_image.specs.Numbers.{byte, word, words_of, path_in}
+use Rattle.bk_image.specs.Numbers.{byte, words_of, path_in}
 use Rattle.bk_image.specs.Subjects.{level_of, level_checks, level_at, schedule_checks, schedule_at, window_of, window_checks, window_at, subject_of}
 use Rattle.bk_image.specs.Subjects.{subject_checks, subject_fails, subject_at}
-use Rattle.bk_image.specs.Objects.{Objects, objects_in, object_of, object_checks, object_fails, room, words_checks, object_at, size, is_over, quotas_at}
+use Rattle.bk_image.specs.Objects.{Objects, objects_in, row_of, object_of, count_in, object_checks, object_fails, room, words_checks, object_at, size, is_over, quotas_at}
 use Rattle.bk_image.specs.Objects.{lacks_lines, after_objects}
 use Rattle.bk_image.specs.Holds.{hold_of, hold_checks, hold_at}
 use Rattle.bk_image.specs.Accepted.{EachPasses, told_of}
 use Rattle.bk_base.proofs.FaultLemmas.{bind_ok, ok_is, all_pass}
 use Rattle.bk_image.proofs.PassedParts.{checked_passed, part_length, checked_length, words_length, each_read}
-use Rattle.bk_image.proofs.Pairs.{length-split_pairs}
+use Rattle.bk_image.proofs.Pairs.{row_length}
 
 -- ---- one part of each kind
 
-pub level_passed : (before : List Level) (rest : Rest) (x : Level × Rest) → level_at before rest ≡ Ok x → Passes (level_checks before true x.0)
+pub level_passed : (version : Version) (before : List Level) (rest : Rest) (x : Level × Rest) → level_at version before rest ≡ Ok x → Passes (level_checks before true x.0)
 unfolding level_at
-level_passed before rest x e =
-    let (b, p, is) = checked_passed 4 (λ b. level_checks before (byte b 1 == 0) (level_of b)) level_of rest x e in
+level_passed version before rest x e =
+    let (b, p, is) = checked_passed (level_size version) (λ b. level_checks before (byte b 1 == 0) (level_of b)) level_of rest x e in
     subst (λ (level : Level). Passes (level_checks before true level)) is (refl, p.1)
 
 pub schedule_passed : (subjects : ℕ) (before : List ℕ) (rest : Rest) (x : ℕ × Rest) → schedule_at subjects before rest ≡ Ok x → Passes (schedule_checks subjects x.0)
@@ -55,9 +57,13 @@ subject_places b count = (
   words_length 8 (take 16 (drop 22 b)) (omega (arith, count, length-take 16 (drop 22 b), length-drop 22 b)),
 )
 
--- the row of 28 bytes
-row_places : (b : List ℕ) → length b ≡ 28 → length (split_pairs (take 16 (drop 10 b))) ≡ most_subjects
-row_places b count = omega (arith, count, length-split_pairs (take 16 (drop 10 b)), length-take 16 (drop 10 b), length-drop 10 b)
+-- the row of an object's bytes has a set for each subject
+row_places : (version : Version) (b : List ℕ) → length b ≡ record_size version → length (row_of (take (bytes_of_row version) (drop 10 b))) ≡ most_subjects
+row_places version b count = row_length (take (bytes_of_row version) (drop 10 b)) (within version)
+  where
+    within : (v : Version) → length (take (bytes_of_row v) (drop 10 b)) ≤ 32
+    within One = omega (arith, length-take 16 (drop 10 b))
+    within Two = omega (arith, length-take 32 (drop 10 b))
 
 pub subject_passed : (levels : List Level) (before : List SubjectRec) (rest : Rest) (x : SubjectRec × Rest) → subject_at levels before rest ≡ Ok x → SubjectPassed levels x.0
 unfolding subject_at
@@ -79,16 +85,16 @@ pub record ObjectPassed (levels : List Level) (subjects lines : ℕ) (before : L
   pub words : Passes (words_checks o.words)
   pub row : length o.facts.row ≡ most_subjects
 
-pub object_passed : (levels : List Level) (subjects lines : ℕ) (before : List ObjectRec) (rest : Rest) (x : ObjectRec × Rest) → object_at levels subjects lines before rest ≡ Ok x → ObjectPassed levels subjects lines before x.0
+pub object_passed : (version : Version) (levels : List Level) (subjects lines : ℕ) (before : List ObjectRec) (rest : Rest) (x : ObjectRec × Rest) → object_at version levels subjects lines before rest ≡ Ok x → ObjectPassed levels subjects lines before x.0
 unfolding object_at
-object_passed levels subjects lines before rest x e =
-    let a = bind_ok (checked 28 (object_fails levels subjects lines before) (λ b. b) rest) (λ b. part (2 * word b.0 26) b.1 >>= λ w. first_failing rest.at (words_checks (words_of w.0)) >>= λ passed. Ok (object_of b.0 (words_of w.0), w.1)) x e in
-    let d = bind_ok (part (2 * word a.0.0 26) a.0.1) (λ w. first_failing rest.at (words_checks (words_of w.0)) >>= λ passed. Ok (object_of a.0.0 (words_of w.0), w.1)) x a.2 in
-    let f = bind_ok (first_failing rest.at (words_checks (words_of d.0.0))) (λ passed. Ok (object_of a.0.0 (words_of d.0.0), d.0.1)) x d.2 in
-    let q = ok_is (object_of a.0.0 (words_of d.0.0), d.0.1) x f.2 in
-    let (bytes, passed, is) = checked_passed 28 (object_fails levels subjects lines before) (λ b. b) rest a.0 a.1 in
-    let p : Passes (object_fails levels subjects lines before a.0.0) = subst (λ (b : List ℕ). Passes (object_fails levels subjects lines before b)) is passed in
-    let count : length (words_of d.0.0) ≡ word a.0.0 26 = words_length (word a.0.0 26) d.0.0 (part_length (2 * word a.0.0 26) a.0.1 d.0 d.1) in
+object_passed version levels subjects lines before rest x e =
+    let a = bind_ok (checked (record_size version) (object_fails version levels subjects lines before) (λ b. b) rest) (λ b. part (2 * count_in version b.0) b.1 >>= λ w. first_failing rest.at (words_checks (words_of w.0)) >>= λ passed. Ok (object_of version b.0 (words_of w.0), w.1)) x e in
+    let d = bind_ok (part (2 * count_in version a.0.0) a.0.1) (λ w. first_failing rest.at (words_checks (words_of w.0)) >>= λ passed. Ok (object_of version a.0.0 (words_of w.0), w.1)) x a.2 in
+    let f = bind_ok (first_failing rest.at (words_checks (words_of d.0.0))) (λ passed. Ok (object_of version a.0.0 (words_of d.0.0), d.0.1)) x d.2 in
+    let q = ok_is (object_of version a.0.0 (words_of d.0.0), d.0.1) x f.2 in
+    let (bytes, passed, is) = checked_passed (record_size version) (object_fails version levels subjects lines before) (λ b. b) rest a.0 a.1 in
+    let p : Passes (object_fails version levels subjects lines before a.0.0) = subst (λ (b : List ℕ). Passes (object_fails version levels subjects lines before b)) is passed in
+    let count : length (words_of d.0.0) ≡ count_in version a.0.0 = words_length (count_in version a.0.0) d.0.0 (part_length (2 * count_in version a.0.0) a.0.1 d.0 d.1) in
     subst (λ (y : ObjectRec × Rest). ObjectPassed levels subjects lines before y.0) q (record {
       passed = (
         refl,
@@ -114,7 +120,7 @@ object_passed levels subjects lines before rest x e =
                             p.1.1.1.1.1.1.1.1.1.1.0,
                             (
                               p.1.1.1.1.1.1.1.1.1.1.1.0,
-                              (subst (λ n. nat_lt (room (object_of a.0.0 []).facts) n ≡ false) (sym count) p.1.1.1.1.1.1.1.1.1.1.1.1.0, tt),
+                              (subst (λ n. nat_lt (room (object_of version a.0.0 []).facts) n ≡ false) (sym count) p.1.1.1.1.1.1.1.1.1.1.1.1.0, tt),
                             ),
                           ),
                         ),
@@ -128,7 +134,7 @@ object_passed levels subjects lines before rest x e =
         ),
       );
       words = all_pass (fault_at rest.at) (words_checks (words_of d.0.0)) f.0 f.1;
-      row = row_places a.0.0 (checked_length 28 (object_fails levels subjects lines before) rest a.0 a.1);
+      row = row_places version a.0.0 (checked_length (record_size version) (object_fails version levels subjects lines before) rest a.0 a.1);
     })
 
 pub hold_passed : (levels : List Level) (subjects : List SubjectRec) (objects : Objects) (before : List Hold) (rest : Rest) (x : Hold × Rest) → hold_at levels subjects objects before rest ≡ Ok x → Passes (hold_checks levels subjects objects before true x.0)
@@ -139,24 +145,24 @@ hold_passed levels subjects objects before rest x e =
 
 -- ---- after all objects
 
-quota_passed : (all : Objects) (front : List ObjectRec) (o : ObjectRec) (tail : List ObjectRec) (at : ℕ) (u : Unit {0}) → quotas_at all (front ++ o ∷ tail) at ≡ Ok u → Passes ((field.Quota, is_over all o) ∷ [])
+quota_passed : (version : Version) (all : Objects) (front : List ObjectRec) (o : ObjectRec) (tail : List ObjectRec) (at : ℕ) (u : Unit {0}) → quotas_at version all (front ++ o ∷ tail) at ≡ Ok u → Passes ((field.Quota, is_over all o) ∷ [])
 unfolding quotas_at
-quota_passed all [] o tail at u e =
-    let a = bind_ok (first_failing at ((field.Quota, is_over all o) ∷ [])) (λ passed. quotas_at all tail (at + size o)) u e in
+quota_passed version all [] o tail at u e =
+    let a = bind_ok (first_failing at ((field.Quota, is_over all o) ∷ [])) (λ passed. quotas_at version all tail (at + size version o)) u e in
     all_pass (fault_at at) ((field.Quota, is_over all o) ∷ []) a.0 a.1
-quota_passed all (z ∷ front) o tail at u e =
-    let a = bind_ok (first_failing at ((field.Quota, is_over all z) ∷ [])) (λ passed. quotas_at all (front ++ o ∷ tail) (at + size z)) u e in
-    quota_passed all front o tail (at + size z) u a.2
+quota_passed version all (z ∷ front) o tail at u e =
+    let a = bind_ok (first_failing at ((field.Quota, is_over all z) ∷ [])) (λ passed. quotas_at version all (front ++ o ∷ tail) (at + size version z)) u e in
+    quota_passed version all front o tail (at + size version z) u a.2
 
 pub record AfterPassed (lines : ℕ) (objects : List ObjectRec) : Type 0 where
   pub quotas : EachPasses (λ before o. (field.Quota, is_over (objects_in objects) o) ∷ []) objects
   pub lines_there : lacks_lines lines objects ≡ false
 
-pub after_passed : (lines : ℕ) (objects : List ObjectRec) (start : ℕ) (u : Unit {0}) → after_objects lines objects start ≡ Ok u → AfterPassed lines objects
+pub after_passed : (version : Version) (lines : ℕ) (objects : List ObjectRec) (start : ℕ) (u : Unit {0}) → after_objects version lines objects start ≡ Ok u → AfterPassed lines objects
 unfolding after_objects
-after_passed lines objects start u e =
-    let a = bind_ok (quotas_at (objects_in objects) objects start) (λ quotas. first_failing 10 ((field.Lines, lacks_lines lines objects) ∷ [])) u e in
+after_passed version lines objects start u e =
+    let a = bind_ok (quotas_at version (objects_in objects) objects start) (λ quotas. first_failing 10 ((field.Lines, lacks_lines lines objects) ∷ [])) u e in
     record {
-      quotas = λ front o tail whole. quota_passed (objects_in objects) front o tail start a.0 (subst (λ os. quotas_at (objects_in objects) os start ≡ Ok a.0) (sym whole) a.1);
+      quotas = λ front o tail whole. quota_passed version (objects_in objects) front o tail start a.0 (subst (λ os. quotas_at version (objects_in objects) os start ≡ Ok a.0) (sym whole) a.1);
       lines_there = (all_pass (fault_at 10) ((field.Lines, lacks_lines lines objects) ∷ []) u a.2).0;
     }

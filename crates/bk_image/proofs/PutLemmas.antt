@@ -1,18 +1,24 @@
 -- Lists that grow by one part.
-use Rattle.std.proofs.Common.{◌≡◌, ℕ, suc, ◌+◌, ◌*◌, ◌<◌, Bool, true, List, [], ◌∷◌, ◌++◌, length, get_or, take, drop, refl, sym, ap, subst, ◌∙◌, append_assoc}
-use Rattle.std.proofs.Common.{arith, inl, inr}
+use Rattle.std.proofs.Common.{◌≡◌, ℕ, suc, ◌+◌, ◌*◌, ◌^◌, ◌<◌, Bool, true, List, [], ◌∷◌, ◌++◌, length, get_or, take, drop, refl, sym, ap, subst, ◌∙◌, append_assoc}
+use Rattle.std.proofs.Common.{arith, inl, inr, ◌-◌, ◌==◌}
 use Rattle.std.specs.Prelude.{All, flat_map}
 use Rattle.std.specs.List.{list_all}
 use Rattle.std.proofs.lemmas.Bool.{cases_lt}
 use Rattle.std.proofs.lemmas.Grind.{flat_map-append}
-use Rattle.std.proofs.lemmas.List.{append-nil, drop-drop, take_more}
+use Rattle.std.proofs.lemmas.List.{append-nil, drop-drop, take_more, get_or-drop}
+use Rattle.std.proofs.lemmas.Bool.Decides.{nat_tests}
 use Rattle.std.proofs.lemmas.List.Concat.{flat_map-cons}
 use Rattle.std.proofs.lemmas.List.Elements.{All-nil, All-cons, All-push}
+use Rattle.bk_object.specs.Modes.{no_modes}
 use Rattle.bk_object.specs.Rows.{in_row}
+use Rattle.bk_image.proofs.SecureLists.{all_at}
 use Rattle.bk_object.specs.declared.modes.Modes.{Modes}
-use Rattle.bk_level.specs.Masks.{level_of, FitsFields, categories_of, mask_of-categories_of}
+use Rattle.bk_level.specs.Masks.{level_of, FitsFields, categories_of, mask_in, mask_of-categories_of, mask_in-small, fields_of-level_of}
 use Rattle.bk_level.specs.declared.level.Level.TheInside.{Inside}
-use Rattle.bk_image.specs.Spelling.{word_bytes, level_bytes}
+use Rattle.bk_image.specs.declared.version.Version.{Version}
+use Rattle.bk_image.specs.declared.version.Version.TheVariants.{One, Two}
+use Rattle.bk_image.specs.Versions.{category_words, bytes_of_row}
+use Rattle.bk_image.specs.Spelling.{words_bytes, level_bytes}
 use Rattle.bk_image.specs.Writing.{LevelFits}
 
 -- x stands at the place
@@ -51,12 +57,16 @@ pub put_both : (now then end : List ℕ) (x : ℕ) (text : List ℕ) → then �
 put_both now then end x text first second = second ∙ ap (λ (t : List ℕ). t ++ text) first ∙ append_assoc now (x ∷ []) text
 
 -- the bytes of a level, by the fields of the code
-pub level_bytes-level_of : (fields : Inside) → FitsFields fields → fields.class ∷ 0 ∷ word_bytes fields.cats ≡ level_bytes (level_of fields)
-level_bytes-level_of fields fits = ap (λ mask. fields.class ∷ 0 ∷ word_bytes mask) (sym (mask_of-categories_of fields.cats fits.cats))
+pub level_bytes-level_of : (version : Version) (fields : Inside) → FitsFields fields → fields.class ∷ 0 ∷ words_bytes (take (category_words version) fields.cats) ≡ level_bytes version (level_of fields)
+level_bytes-level_of version fields fits =
+    ap (λ (f : Inside). fields.class ∷ 0 ∷ words_bytes (take (category_words version) f.cats)) (sym (fields_of-level_of fields fits))
 
 -- the categories of a level are those of a mask
 pub LevelFits-level_of : (fields : Inside) → FitsFields fields → LevelFits (level_of fields)
-LevelFits-level_of fields fits = ap categories_of (mask_of-categories_of fields.cats fits.cats)
+LevelFits-level_of fields fits =
+    let small = mask_in-small fields fits in
+    let same = mask_of-categories_of (mask_in fields.cats) small in
+    record { small = subst (λ m. m < 2 ^ 48) (sym same) small; back = ap categories_of same }
 
 -- what holds below twice a number, and of the next two
 pub two_more : (P : ℕ → Type 0) (k : ℕ) → ((n : ℕ) → n < 2 * k → P n) → P (2 * k) → P (2 * k + 1) → (n : ℕ) → n < 2 * (k + 1) → P n
@@ -75,3 +85,23 @@ pub row_sets : (row : List Modes) → ((subject : ℕ) → subject < length row 
 row_sets [] fits = All-nil (λ (modes : Modes). modes.0 < 16)
 row_sets (modes ∷ row) fits =
     All-cons (λ (modes : Modes). modes.0 < 16) modes row (fits 0 (omega arith)) (row_sets row (λ subject below. fits (suc subject) (omega (arith, below))))
+
+-- the sets from a place on are of no modes, and those before it are below 16
+pub rest_sets : (row : List Modes) (n : ℕ) → ((subject : ℕ) → subject < n → (in_row row subject).0 < 16) → list_all (λ modes. modes.0 == 0) (drop n row) ≡ true →
+    (subject : ℕ) → subject < length row → (in_row row subject).0 < 16
+rest_sets row n before rest subject below =
+    elim (cases_lt subject n) [
+      | inl less ↦ before subject less
+      | inr no_less ↦
+          let none : ((in_row row (n + (subject - n))).0 == 0) ≡ true = ap (λ (m : Modes). m.0 == 0) (sym (get_or-drop n row (subject - n) no_modes)) ∙ all_at (λ (m : Modes). m.0 == 0) (drop n row) (subject - n) no_modes refl rest in
+          let same : n + (subject - n) ≡ subject = omega (arith, no_less) in
+          subst (λ k. (in_row row k).0 < 16) same (small (in_row row (n + (subject - n))).0 none)
+    ]
+  where
+    small : (k : ℕ) → (k == 0) ≡ true → k < 16
+    small k none = grind (arith, nat_tests, none)
+
+-- a row has bytes in each version
+pub some_row : (version : Version) → 0 < bytes_of_row version
+some_row One = omega arith
+some_row Two = omega arith

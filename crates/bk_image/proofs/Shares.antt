@@ -15,6 +15,7 @@ use Rattle.bk_state.specs.Start.{object_from}
 use Rattle.bk_state.specs.declared.image.ObjectRec.{ObjectRec}
 use Rattle.bk_image.specs.declared.fault.ImageField.TheVariants as field
 use Rattle.bk_image.specs.declared.fault.ImageFault.{ImageFault}
+use Rattle.bk_image.specs.declared.version.Version.{Version}
 use Rattle.bk_image.specs.Parts.{fault, ◌>>=◌}
 use Rattle.bk_image.specs.Objects.{Objects, objects_in, used_at, is_over, quotas_at, size}
 use Rattle.bk_image.specs.Views.{IsAscending, first_of, part_of, share_at}
@@ -87,17 +88,17 @@ abbrev pub told : Option ℕ → Result (Unit {0}) ImageFault → Result (Unit {
 told None left = left
 told (Some at) left = fault at field.Quota
 
-pub told_next : (all : Objects) (o : ObjectRec) (objects : List ObjectRec) (found : Option ℕ) (at : ℕ) →
-    told found (quotas_at all (o ∷ objects) at) ≡ told (first_of found at (is_over all o)) (quotas_at all objects (at + size o))
+pub told_next : (version : Version) (all : Objects) (o : ObjectRec) (objects : List ObjectRec) (found : Option ℕ) (at : ℕ) →
+    told found (quotas_at version all (o ∷ objects) at) ≡ told (first_of found at (is_over all o)) (quotas_at version all objects (at + size version o))
 unfolding quotas_at
-told_next all o objects (Some place) at = refl
-told_next all o objects None at = by (is_over all o)
+told_next version all o objects (Some place) at = refl
+told_next version all o objects None at = by (is_over all o)
   where
-    by : (b : Bool) → ((if b then fault at field.Quota else Ok (tt {0})) >>= λ passed. quotas_at all objects (at + size o)) ≡ told (if b then Some at else None) (quotas_at all objects (at + size o))
+    by : (b : Bool) → ((if b then fault at field.Quota else Ok (tt {0})) >>= λ passed. quotas_at version all objects (at + size version o)) ≡ told (if b then Some at else None) (quotas_at version all objects (at + size version o))
     by true = refl
     by false = refl
 
 -- of no objects nothing is told
-pub told_none : (all : Objects) (at : ℕ) → quotas_at all [] at ≡ Ok (tt {0})
+pub told_none : (version : Version) (all : Objects) (at : ℕ) → quotas_at version all [] at ≡ Ok (tt {0})
 unfolding quotas_at
-told_none all at = refl
+told_none version all at = refl

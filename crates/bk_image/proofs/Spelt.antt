@@ -1,32 +1,43 @@
 -- What is read as a part is spelt by exactly the bytes that were taken.
-use Rattle.std.proofs.Common.{◌≡◌, ℕ, zero, suc, ◌+◌, ◌*◌, ◌/◌, ◌%◌, ◌<◌, ◌≤◌, Bool, true, false, List, [], ◌∷◌, ◌++◌, length, take, drop, Option, Some, None}
+use Rattle.std.proofs.Common.{◌≡◌, ℕ, zero, suc, ◌+◌, ◌-◌, ◌*◌, ◌/◌, ◌%◌, ◌<◌, ◌≤◌, Bool, true, false, List, [], ◌∷◌, ◌++◌, length, take, drop, get_or, replicate, Option, Some, None}
 use Rattle.std.proofs.Common.{Ok, refl, sym, ap, subst, ◌∙◌, arith, ◌==◌, length-take, length-drop}
 use Rattle.std.specs.Prelude.{◌^◌, not, ◌&&◌, ◌||◌, nat_lt, is_none, unwrap_or, flat_map, if◌then◌else◌}
 use Rattle.bk_space.specs.declared.Mode.TheVariants.{Supervisor, User}
+use Rattle.std.specs.List.{list_all}
+use Rattle.std.proofs.lemmas.Bool.{and_from, and_parts}
 use Rattle.std.proofs.lemmas.Bool.Decides.{nat_tests}
-use Rattle.bk_level.specs.Levels.{Level}
-use Rattle.bk_level.specs.Masks.{mask_of-categories_of}
+use Rattle.std.proofs.lemmas.List.{take_at}
+use Rattle.bk_level.specs.Levels.{Level, has_only_below}
+use Rattle.bk_level.proofs.MaskLemmas.{only_first}
+use Rattle.bk_level.specs.Masks.{categories_of, mask_in, mask_of-categories_of}
+use Rattle.bk_level.specs.Masks as masks
 use Rattle.bk_path.specs.Paths.{Path, unpack}
 use Rattle.bk_path.proofs.PathLemmas.{pack-unpack}
 use Rattle.bk_object.specs.Kinds.{kind_number, blocks_or_line}
-use Rattle.bk_object.specs.Pairs.{split_pairs}
+use Rattle.bk_object.specs.Modes.{no_modes}
+use Rattle.bk_object.specs.Pairs.{split_pairs, joined_pairs}
+use Rattle.bk_object.specs.Rows.{most_subjects}
 use Rattle.bk_state.specs.declared.image.Hold.{Hold}
 use Rattle.bk_state.specs.declared.image.ObjectRec.{ObjectRec}
 use Rattle.bk_state.specs.declared.image.SubjectRec.{SubjectRec}
 use Rattle.bk_state.specs.declared.image.WindowRec.{WindowRec}
 use Rattle.bk_image.specs.declared.fault.ImageField.{ImageField}
-use Rattle.bk_image.specs.Parts.{Passes, ◌>>=◌, first_failing, part, checked, each_of, is_outside}
+use Rattle.bk_image.specs.declared.version.Version.{Version}
+use Rattle.bk_image.specs.declared.version.Version.TheVariants.{One, Two}
+use Rattle.bk_image.specs.Versions.{category_words, bytes_of_row, level_size, record_size, subjects_of}
+use Rattle.bk_image.specs.Parts.{Rest, Passes, ◌>>=◌, first_failing, part, checked, each_of, is_outside}
 use Rattle.bk_image.specs.Numbers.{byte, word, words_of, path_in}
 use Rattle.bk_image.specs.Header.{byte_at, word_at}
 use Rattle.bk_image.specs.Subjects.{level_of, level_checks, level_at, schedule_checks, schedule_at, window_of, window_checks, window_at, is_mode, mode_of}
 use Rattle.bk_image.specs.Subjects.{subject_of, subject_fails, subject_at}
-use Rattle.bk_image.specs.Objects.{Objects, kind_of, blocks_of, object_of, object_fails, words_checks, object_at}
+use Rattle.bk_image.specs.Objects.{Objects, kind_of, blocks_of, row_of, object_of, count_in, object_fails, words_checks, object_at}
 use Rattle.bk_image.specs.Holds.{hold_of, hold_checks, hold_at}
 use Rattle.bk_image.specs.Spelling.{word_bytes, path_bytes, level_bytes, mode_number, window_bytes, subject_record, subject_bytes, kind_bytes}
-use Rattle.bk_image.specs.Spelling.{row_bytes, object_record, object_bytes, hold_bytes}
+use Rattle.bk_image.specs.Spelling.{words_bytes, row_bytes, object_record, object_bytes, hold_bytes}
 use Rattle.bk_base.proofs.FaultLemmas.{bind_ok, ok_is}
 use Rattle.bk_image.proofs.Takes.{IsBytes, IsBytes-drop, IsBytes-take, Takes-then, Takes-value, part_takes, checked_ok, Spells, checked_spells, all_take}
-use Rattle.bk_image.proofs.Takes.{by_places, word_bytes-word, words_back}
+use Rattle.bk_image.proofs.Takes.{bytes_from, by_places, word_bytes-word, words_back}
+use Rattle.bk_image.proofs.Pairs.{length-split_pairs, joined-split}
 
 -- ---- numbers
 
@@ -65,14 +76,75 @@ path_back a b c d la lb lc ld some = by (unpack (a + 256 * b) (c + 256 * d)) ref
 
 -- ---- levels, windows, holds
 
-pub level_spells : (before : List Level) → Spells level_bytes (level_at before)
+-- the words of a level, as many as the version has, make a mask of 48 bits whose first words they are
+mask_back : (version : Version) (words : List ℕ) → length words ≡ category_words version → ((i : ℕ) → get_or words i 0 < 2 ^ 16) → (mask_in words < 2 ^ 48) × (take (category_words version) (masks.words_of (mask_in words)) ≡ words)
+mask_back One [] count small = absurd (omega (arith, count))
+mask_back One (x ∷ []) count small = (omega (arith, small 0), λ i. first i ∷ [])
+  where
+    first : (x + 2 ^ 16 * 0) % 2 ^ 16 ≡ x
+    first = omega (arith, small 0)
+mask_back One (x ∷ y ∷ words) count small = absurd (omega (arith, count))
+mask_back Two [] count small = absurd (omega (arith, count))
+mask_back Two (x ∷ []) count small = absurd (omega (arith, count))
+mask_back Two (x ∷ y ∷ []) count small = absurd (omega (arith, count))
+mask_back Two (x ∷ y ∷ z ∷ []) count small = (omega (arith, small 0, small 1, small 2), λ i. first i ∷ second i ∷ third i ∷ [])
+  where
+    mask : ℕ
+    mask = x + 2 ^ 16 * (y + 2 ^ 16 * (z + 2 ^ 16 * 0))
+
+    first : mask % 2 ^ 16 ≡ x
+    first = omega (arith, small 0)
+
+    second : mask / 2 ^ 16 % 2 ^ 16 ≡ y
+    second = omega (arith, small 0, small 1)
+
+    third : mask / 2 ^ 32 % 2 ^ 16 ≡ z
+    third = omega (arith, small 0, small 1, small 2)
+mask_back Two (x ∷ y ∷ z ∷ w ∷ words) count small = absurd (omega (arith, count))
+
+-- the words of bytes are of 16 bits
+pub words_small : (b : List ℕ) → IsBytes b → (i : ℕ) → get_or (words_of b) i 0 < 2 ^ 16
+words_small [] fits i = omega arith
+words_small (low ∷ []) fits i = omega arith
+words_small (low ∷ high ∷ b) fits zero = omega (arith, fits 0, fits 1)
+words_small (low ∷ high ∷ b) fits (suc i) = words_small b (λ k. fits (suc (suc k))) i
+
+level_back : (version : Version) (b : List ℕ) → length b ≡ level_size version → IsBytes b → not (byte b 1 == 0) ≡ false → level_bytes version (level_of b) ≡ b
+level_back version [] count fits zero_byte = absurd (omega (arith, count))
+level_back version (x ∷ []) count fits zero_byte = absurd (omega (arith, count))
+level_back version (x ∷ y ∷ b) count fits zero_byte =
+    let words = words_back (category_words version) b (omega (arith, count)) (λ i. fits (suc (suc i))) in
+    let mask = mask_back version (words_of b) words.1 (words_small b (λ i. fits (suc (suc i)))) in
+    let same = mask_of-categories_of (mask_in (words_of b)) mask.0 in
+    (λ i. x ∷ zero_is y zero_byte i ∷ words_bytes (take (category_words version) (masks.words_of (same i))))
+    ∙ ap (λ (t : List ℕ). x ∷ y ∷ words_bytes t) mask.1
+    ∙ ap (λ (t : List ℕ). x ∷ y ∷ t) words.0
+
+pub level_spells : (version : Version) (before : List Level) → Spells (level_bytes version) (level_at version before)
 unfolding level_at
-level_spells before = checked_spells level_bytes 4 (λ b. level_checks before (byte b 1 == 0) (level_of b)) level_of (λ b count fit passed.
-    let zero_byte = zero_is (byte b 1) passed.0 in
-    let small : word b 2 < 2 ^ 16 = omega (arith, fit 2, fit 3) in
-    let mask = mask_of-categories_of (word b 2) small in
-    let w = word_bytes-word (byte b 2) (byte b 3) (fit 2) in
-    (λ i. byte b 0 ∷ zero_byte i ∷ word_bytes (mask i)) ∙ ap (λ (t : List ℕ). byte b 0 ∷ byte b 1 ∷ t) w ∙ by_places b 4 count)
+level_spells version before = checked_spells (level_bytes version) (level_size version) (λ b. level_checks before (byte b 1 == 0) (level_of b)) level_of (λ b count fit passed.
+    level_back version b count fit passed.0)
+
+-- a level that was read in version 1 has only categories below 16
+pub level_said : (before : List Level) (rest : Rest) (x : Level × Rest) → IsBytes rest.bytes → level_at One before rest ≡ Ok x → has_only_below 16 x.0 ≡ true
+unfolding level_at
+level_said before rest x fits e =
+    let c = checked_ok 4 (λ b. level_checks before (byte b 1 == 0) (level_of b)) level_of rest x fits e in
+    subst (λ (level : Level). has_only_below 16 level ≡ true) c.is (first_only c.bytes c.count c.fit)
+  where
+    first_only : (b : List ℕ) → length b ≡ 4 → IsBytes b → has_only_below 16 (level_of b) ≡ true
+    first_only b count fit =
+        let small : word b 2 < 2 ^ 16 = omega (arith, fit 2, fit 3) in
+        let mask : mask_in (words_of (drop 2 (bytes_from 0 4 b))) ≡ mask_in (word b 2 ∷ 0 ∷ 0 ∷ []) = omega arith in
+        subst (λ c. has_only_below 16 (level_of c) ≡ true) (by_places b 4 count)
+        (ap (λ m. list_all (λ category. nat_lt category 16) (categories_of m)) mask ∙ sym (only_first (word b 2) 0 0 small (omega arith) (omega arith)))
+
+pub two_is_not_one : Two ≡ One → ⊥
+two_is_not_one is = cc
+
+pub all_push : {X : Type 0} (test : X → Bool) (xs : List X) (x : X) → list_all test xs ≡ true → test x ≡ true → list_all test (xs ++ x ∷ []) ≡ true
+all_push test [] x all one = and_from (test x) true one refl
+all_push test (y ∷ xs) x all one = and_from (test y) (list_all test (xs ++ x ∷ [])) (and_parts (test y) (list_all test xs) all).0 (all_push test xs x (and_parts (test y) (list_all test xs) all).1 one)
 
 pub window_spells : (before : List WindowRec) → Spells window_bytes (window_at before)
 unfolding window_at
@@ -149,50 +221,47 @@ kind_back (suc (suc zero)) line le = (refl, refl)
 kind_back (suc (suc (suc zero))) line le = (refl, refl)
 kind_back (suc (suc (suc (suc n)))) line le = absurd (grind (arith, nat_tests, le))
 
-low_half : (b : ℕ) → b % 16 + 16 * (b / 16) ≡ b
-low_half b = omega arith
-
 -- the bytes of a row are got back from its sets
-row_back : (pairs : List ℕ) → length pairs ≡ 16 → row_bytes (split_pairs pairs) ≡ pairs
+row_back : (version : Version) (pairs : List ℕ) → length pairs ≡ bytes_of_row version → row_bytes version (row_of pairs) ≡ pairs
 unfolding row_bytes
-row_back pairs whole = subst (λ p. row_bytes (split_pairs p) ≡ p) (by_places pairs 16 whole) (λ i.
-    low_half (byte pairs 0) i ∷ low_half (byte pairs 1) i ∷ low_half (byte pairs 2) i ∷ low_half (byte pairs 3) i
-    ∷ low_half (byte pairs 4) i ∷ low_half (byte pairs 5) i ∷ low_half (byte pairs 6) i ∷ low_half (byte pairs 7) i
-    ∷ low_half (byte pairs 8) i ∷ low_half (byte pairs 9) i ∷ low_half (byte pairs 10) i ∷ low_half (byte pairs 11) i
-    ∷ low_half (byte pairs 12) i ∷ low_half (byte pairs 13) i ∷ low_half (byte pairs 14) i ∷ low_half (byte pairs 15) i ∷ [])
+row_back version pairs whole =
+    ap joined_pairs (take_at (split_pairs pairs) (replicate (most_subjects - 2 * length pairs) no_modes) (subjects_of version) (omega (arith, length-split_pairs pairs, whole))) ∙ joined-split pairs
 
--- the pieces of 28 bytes
-object_pieces : (b : List ℕ) → length b ≡ 28 →
-    (byte b 0 ∷ byte b 1 ∷ byte b 2 ∷ byte b 3 ∷ []) ++ (byte b 4 ∷ byte b 5 ∷ byte b 6 ∷ byte b 7 ∷ []) ++ (byte b 8 ∷ byte b 9 ∷ []) ++ take 16 (drop 10 b) ++ (byte b 26 ∷ byte b 27 ∷ []) ≡ b
-object_pieces b count = subst pieces (by_places b 28 count) refl
-  where
-    pieces : List ℕ → Type 0
-    pieces c = (byte c 0 ∷ byte c 1 ∷ byte c 2 ∷ byte c 3 ∷ []) ++ (byte c 4 ∷ byte c 5 ∷ byte c 6 ∷ byte c 7 ∷ []) ++ (byte c 8 ∷ byte c 9 ∷ []) ++ take 16 (drop 10 c) ++ (byte c 26 ∷ byte c 27 ∷ []) ≡ c
+-- the bytes are these pieces
+abbrev IsPieces : (n : ℕ) → List ℕ → Type 0
+IsPieces n b =
+    (byte b 0 ∷ byte b 1 ∷ byte b 2 ∷ byte b 3 ∷ []) ++ (byte b 4 ∷ byte b 5 ∷ byte b 6 ∷ byte b 7 ∷ []) ++ (byte b 8 ∷ byte b 9 ∷ []) ++ take n (drop 10 b)
+    ++ (byte b (10 + n) ∷ byte b (10 + n + 1) ∷ []) ≡ b
 
-object_back : (levels : List Level) (subjects lines : ℕ) (before : List ObjectRec) (b words : List ℕ) → length b ≡ 28 → IsBytes b → Passes (object_fails levels subjects lines before b) → length words ≡ word b 26 → object_record (object_of b words) ≡ b
+object_pieces : (version : Version) (b : List ℕ) → length b ≡ record_size version → IsPieces (bytes_of_row version) b
+object_pieces One b count = subst (IsPieces 16) (by_places b 28 count) refl
+object_pieces Two b count = subst (IsPieces 32) (by_places b 44 count) refl
+
+object_back : (version : Version) (levels : List Level) (subjects lines : ℕ) (before : List ObjectRec) (b words : List ℕ) → length b ≡ record_size version → IsBytes b → Passes (object_fails version levels subjects lines before b) → length words ≡ count_in version b → object_record version (object_of version b words) ≡ b
 unfolding kind_bytes
-object_back levels subjects lines before b words count fit passed words_are =
+object_back version levels subjects lines before b words count fit passed words_are =
     let path = path_back (byte b 0) (byte b 1) (byte b 2) (byte b 3) (fit 0) (fit 1) (fit 2) (fit 3) (not_not (is_none (path_in b 0)) passed.0) in
     let kind = kind_back (byte b 4) (byte b 5) passed.1.1.1.0 in
     let zero_byte = zero_is (byte b 7) passed.1.1.1.1.1.1.1.1.0 in
     let quota = word_bytes-word (byte b 8) (byte b 9) (fit 8) in
-    let row = row_back (take 16 (drop 10 b)) (piece_length 10 16 b (omega (arith, count))) in
-    let words = ap word_bytes words_are ∙ word_bytes-word (byte b 26) (byte b 27) (fit 26) in
-    (λ i. path i ++ (kind.0 i ∷ kind.1 i ∷ byte b 6 ∷ zero_byte i ∷ []) ++ quota i ++ row i ++ words i) ∙ object_pieces b count
+    let n = bytes_of_row version in
+    let row = row_back version (take n (drop 10 b)) (piece_length 10 n b (omega (arith, count))) in
+    let words = ap word_bytes words_are ∙ word_bytes-word (byte b (10 + n)) (byte b (10 + n + 1)) (fit (10 + n)) in
+    (λ i. path i ++ (kind.0 i ∷ kind.1 i ∷ byte b 6 ∷ zero_byte i ∷ []) ++ quota i ++ row i ++ words i) ∙ object_pieces version b count
 
-pub object_spells : (levels : List Level) (subjects lines : ℕ) (before : List ObjectRec) → Spells object_bytes (object_at levels subjects lines before)
+pub object_spells : (version : Version) (levels : List Level) (subjects lines : ℕ) (before : List ObjectRec) → Spells (object_bytes version) (object_at version levels subjects lines before)
 unfolding object_at object_bytes
-object_spells levels subjects lines before rest x fits e =
-    let a = bind_ok (checked 28 (object_fails levels subjects lines before) (λ b. b) rest) (λ b. part (2 * word b.0 26) b.1 >>= λ w. first_failing rest.at (words_checks (words_of w.0)) >>= λ passed. Ok (object_of b.0 (words_of w.0), w.1)) x e in
-    let d = bind_ok (part (2 * word a.0.0 26) a.0.1) (λ w. first_failing rest.at (words_checks (words_of w.0)) >>= λ passed. Ok (object_of a.0.0 (words_of w.0), w.1)) x a.2 in
-    let f = bind_ok (first_failing rest.at (words_checks (words_of d.0.0))) (λ passed. Ok (object_of a.0.0 (words_of d.0.0), d.0.1)) x d.2 in
-    let q = ok_is (object_of a.0.0 (words_of d.0.0), d.0.1) x f.2 in
-    let c = checked_ok 28 (object_fails levels subjects lines before) (λ b. b) rest a.0 fits a.1 in
-    let t = part_takes (2 * word a.0.0 26) a.0.1 d.0 c.takes.fits d.1 in
+object_spells version levels subjects lines before rest x fits e =
+    let a = bind_ok (checked (record_size version) (object_fails version levels subjects lines before) (λ b. b) rest) (λ b. part (2 * count_in version b.0) b.1 >>= λ w. first_failing rest.at (words_checks (words_of w.0)) >>= λ passed. Ok (object_of version b.0 (words_of w.0), w.1)) x e in
+    let d = bind_ok (part (2 * count_in version a.0.0) a.0.1) (λ w. first_failing rest.at (words_checks (words_of w.0)) >>= λ passed. Ok (object_of version a.0.0 (words_of w.0), w.1)) x a.2 in
+    let f = bind_ok (first_failing rest.at (words_checks (words_of d.0.0))) (λ passed. Ok (object_of version a.0.0 (words_of d.0.0), d.0.1)) x d.2 in
+    let q = ok_is (object_of version a.0.0 (words_of d.0.0), d.0.1) x f.2 in
+    let c = checked_ok (record_size version) (object_fails version levels subjects lines before) (λ b. b) rest a.0 fits a.1 in
+    let t = part_takes (2 * count_in version a.0.0) a.0.1 d.0 c.takes.fits d.1 in
     let same : c.bytes ≡ a.0.0 = c.is in
-    let words = words_back (word a.0.0 26) d.0.0 t.1 t.2 in
-    let words_are : length (words_of d.0.0) ≡ word c.bytes 26 = words.1 ∙ ap (λ b. word b 26) (sym same) in
-    let front : object_record (object_of a.0.0 (words_of d.0.0)) ≡ c.bytes = ap (λ b. object_record (object_of b (words_of d.0.0))) (sym same) ∙ object_back levels subjects lines before c.bytes (words_of d.0.0) c.count c.fit c.passed words_are in
+    let words = words_back (count_in version a.0.0) d.0.0 t.1 t.2 in
+    let words_are : length (words_of d.0.0) ≡ count_in version c.bytes = words.1 ∙ ap (count_in version) (sym same) in
+    let front : object_record version (object_of version a.0.0 (words_of d.0.0)) ≡ c.bytes = ap (λ b. object_record version (object_of version b (words_of d.0.0))) (sym same) ∙ object_back version levels subjects lines before c.bytes (words_of d.0.0) c.count c.fit c.passed words_are in
     let both = Takes-then rest c.bytes a.0.1 d.0.0 d.0.1 c.takes t.0 in
-    let text : object_bytes (object_of a.0.0 (words_of d.0.0)) ≡ c.bytes ++ d.0.0 = λ i. front i ++ words.0 i in
-    Takes-value object_bytes rest (c.bytes ++ d.0.0) (object_of a.0.0 (words_of d.0.0), d.0.1) x q text both
+    let text : object_bytes version (object_of version a.0.0 (words_of d.0.0)) ≡ c.bytes ++ d.0.0 = λ i. front i ++ words.0 i in
+    Takes-value (object_bytes version) rest (c.bytes ++ d.0.0) (object_of version a.0.0 (words_of d.0.0), d.0.1) x q text both

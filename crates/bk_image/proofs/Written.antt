@@ -1,20 +1,26 @@
 -- What is written is an image, and that image.
 use Rattle.std.proofs.Common.{◌≡◌, ℕ, Bool, true, false, cond, List, [], ◌∷◌, ◌++◌, length, take, Result, Ok, Err, refl, sym, ap, subst, ◌∙◌, arith}
-use Rattle.std.specs.Prelude.{◌&&◌, nat_lt, IfOk, All}
+use Rattle.std.specs.Prelude.{◌&&◌, nat_lt, nat_le, if◌then◌else◌, IfOk, All}
 use Rattle.std.specs.List.{list_all}
 use Rattle.std.proofs.lemmas.List.{append-nil, take_at}
 use Rattle.std.proofs.lemmas.List.Elements.{All-nil, All-cons, All-head, All-tail}
+use Rattle.bk_level.specs.Levels.{Level, has_only_below}
 use Rattle.bk_state.specs.declared.image.Image.{Image}
 use Rattle.bk_state.specs.declared.image.ObjectRec.{ObjectRec}
 use Rattle.bk_image.specs.declared.fault.ImageFault.{ImageFault}
 use Rattle.bk_image.specs.declared.fault.ImageField.TheVariants as field
 use Rattle.bk_base.specs.declared.stop.Stop.{Stop}
+use Rattle.bk_image.specs.declared.version.Version.{Version}
+use Rattle.bk_image.specs.declared.version.Version.TheVariants.{One, Two}
+use Rattle.bk_image.specs.Versions.{subjects_of, can_say, version_for}
 use Rattle.bk_image.specs.Parts.{◌>>=◌, Gives}
 use Rattle.bk_image.specs.Image.{image_of}
 use Rattle.bk_image.specs.Spelling.{spelling}
-use Rattle.bk_image.specs.Writing.{ObjectFits, Fits, blocks_fit, object_fits, counts_fit, written_image}
+use Rattle.bk_image.specs.Objects.{fits_subjects}
+use Rattle.bk_image.specs.Writing.{LevelFits, ObjectFits, Fits, blocks_fit, object_fits, counts_fit, written_image}
 use Rattle.bk_base.proofs.FaultLemmas.{bind_ok, ok_is}
 use Rattle.bk_image.proofs.Fronts.{image_grows}
+use Rattle.bk_image.proofs.Only.{LevelIsSpelt}
 use Rattle.bk_image.proofs.OnlyObjects.{ObjectIsSpelt}
 use Rattle.bk_image.proofs.OnlyImage.{IsWritable, spelling_only}
 
@@ -24,25 +30,43 @@ and_first a b both = grind (arith, both)
 and_second : (a b : Bool) → (a && b) ≡ true → b ≡ true
 and_second a b both = grind (arith, both)
 
-object_is_spelt : (o : ObjectRec) → ObjectFits o → object_fits o ≡ true → ObjectIsSpelt o
-object_is_spelt o fits test = record {
+object_is_spelt : (version : Version) (o : ObjectRec) → ObjectFits o → object_fits version o ≡ true → ObjectIsSpelt version o
+object_is_spelt version o fits test = record {
   path = fits.path;
   row = fits.row;
-  blocks = and_second (nat_lt (length o.words) 65536) (blocks_fit o.facts.kind o.facts.blocks) test;
+  rest = and_second (nat_lt (length o.words) 65536 && blocks_fit o.facts.kind o.facts.blocks) (fits_subjects (subjects_of version) o.facts.row) test;
+  blocks =
+      and_second (nat_lt (length o.words) 65536) (blocks_fit o.facts.kind o.facts.blocks)
+      (and_first (nat_lt (length o.words) 65536 && blocks_fit o.facts.kind o.facts.blocks) (fits_subjects (subjects_of version) o.facts.row) test);
 }
 
-objects_are_spelt : (objects : List ObjectRec) → All ObjectFits objects → list_all object_fits objects ≡ true → All ObjectIsSpelt objects
-objects_are_spelt [] fits test = All-nil ObjectIsSpelt
-objects_are_spelt (o ∷ objects) fits test =
-    All-cons ObjectIsSpelt o objects
-    (object_is_spelt o (All-head ObjectFits o objects fits) (and_first (object_fits o) (list_all object_fits objects) test))
-    (objects_are_spelt objects (All-tail ObjectFits o objects fits) (and_second (object_fits o) (list_all object_fits objects) test))
+objects_are_spelt : (version : Version) (objects : List ObjectRec) → All ObjectFits objects → list_all (object_fits version) objects ≡ true → All (ObjectIsSpelt version) objects
+objects_are_spelt version [] fits test = All-nil (ObjectIsSpelt version)
+objects_are_spelt version (o ∷ objects) fits test =
+    All-cons (ObjectIsSpelt version) o objects
+    (object_is_spelt version o (All-head ObjectFits o objects fits) (and_first (object_fits version o) (list_all (object_fits version) objects) test))
+    (objects_are_spelt version objects (All-tail ObjectFits o objects fits) (and_second (object_fits version o) (list_all (object_fits version) objects) test))
+
+-- the levels of an image can be said in the version that is for it
+levels_are_spelt : (levels : List Level) → All LevelFits levels → list_all (has_only_below 16) levels ≡ true → All (LevelIsSpelt One) levels
+levels_are_spelt [] fits test = All-nil (LevelIsSpelt One)
+levels_are_spelt (level ∷ levels) fits test =
+    All-cons (LevelIsSpelt One) level levels
+    (All-head LevelFits level levels fits, and_first (has_only_below 16 level) (list_all (has_only_below 16) levels) test)
+    (levels_are_spelt levels (All-tail LevelFits level levels fits) (and_second (has_only_below 16 level) (list_all (has_only_below 16) levels) test))
+
+levels_said_for : (subjects : ℕ) (levels : List Level) → All LevelFits levels → All (LevelIsSpelt (if can_say One subjects levels then One else Two)) levels
+levels_said_for subjects levels fits = by (can_say One subjects levels) refl
+  where
+    by : (b : Bool) → can_say One subjects levels ≡ b → All (LevelIsSpelt (if b then One else Two)) levels
+    by true is = levels_are_spelt levels fits (and_second (nat_le subjects 32) (list_all (has_only_below 16) levels) is)
+    by false is = fits
 
 is_writable : (image : Image) → Fits image → counts_fit image ≡ true → IsWritable image
 is_writable image fits counts = record {
-  levels = fits.levels;
+  levels = levels_said_for (length image.subjects) image.levels fits.levels;
   subjects = fits.subjects;
-  objects = objects_are_spelt image.objects fits.objects (and_second _ (list_all object_fits image.objects) counts);
+  objects = objects_are_spelt (version_for image) image.objects fits.objects (and_second _ (list_all (object_fits (version_for image)) image.objects) counts);
   holds = fits.holds;
 }
 

@@ -5,7 +5,7 @@ use Rattle.bk_image.specs.declared.fault.ImageFault.{ImageFault}
 use Rattle.bk_base.specs.Parts.{first_of}
 use Rattle.bk_image.specs.Parts.{Rest, Reads, ◌>>=◌, each_of}
 use Rattle.bk_image.specs.Header.{header_at}
-use Rattle.bk_image.specs.Subjects.{level_at, schedule_at, subject_at}
+use Rattle.bk_image.specs.Subjects.{level_at, after_levels, schedule_at, subject_at}
 use Rattle.bk_image.specs.Objects.{objects_in, object_at, after_objects}
 use Rattle.bk_image.specs.Holds.{hold_at}
 
@@ -13,11 +13,12 @@ use Rattle.bk_image.specs.Holds.{hold_at}
 unfoldable pub image_at : Rest → Reads Image
 image_at rest = do
   header ← header_at rest
-  levels ← each_of level_at header.0.levels [] header.1
+  levels ← each_of (level_at header.0.version) header.0.levels [] header.1
+  said ← after_levels header.0.version header.0.subjects levels.0
   schedule ← each_of (schedule_at header.0.subjects) header.0.schedule [] levels.1
   subjects ← each_of (subject_at levels.0) header.0.subjects [] schedule.1
-  objects ← each_of (object_at levels.0 header.0.subjects header.0.lines) header.0.objects [] subjects.1
-  passed ← after_objects header.0.lines objects.0 subjects.1.at
+  objects ← each_of (object_at header.0.version levels.0 header.0.subjects header.0.lines) header.0.objects [] subjects.1
+  passed ← after_objects header.0.version header.0.lines objects.0 subjects.1.at
   holds ← each_of (hold_at levels.0 subjects.0 (objects_in objects.0)) header.0.holds [] objects.1
   Ok (
     record {

@@ -2,6 +2,7 @@ pub mod Texts
 pub mod Limits
 pub mod Parts
 pub mod Numbers
+pub mod Versions
 pub mod Header
 pub mod Subjects
 pub mod Objects

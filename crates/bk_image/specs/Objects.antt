@@ -1,5 +1,5 @@
 -- Objects, their words, and what is checked after all of them.
-use Rattle.std.specs.Prelude.{ℕ, ◌+◌, ◌*◌, Bool, true, false, not, ◌&&◌, ◌||◌, ◌==◌, nat_lt, if◌then◌else◌, List, [], ◌∷◌, length, take, drop, map, Option}
+use Rattle.std.specs.Prelude.{ℕ, ◌+◌, ◌-◌, ◌*◌, Bool, true, false, not, ◌&&◌, ◌||◌, ◌==◌, nat_lt, if◌then◌else◌, List, [], ◌∷◌, ◌++◌, length, take, drop, map, replicate, Option}
 use Rattle.std.specs.Prelude.{Some, None, is_none, Result, Ok}
 use Rattle.std.specs.List.{list_any, list_all, count_by}
 use Rattle.std.specs.Ordering.{is_lt}
@@ -8,8 +8,9 @@ use Rattle.bk_level.specs.Levels.{Level, dominates, level_at}
 use Rattle.bk_path.specs.Paths.{Path, path_cmp, is_root, parent}
 use Rattle.bk_object.specs.Kinds.{is_directory, is_any_line, kind_modes}
 use Rattle.bk_object.specs.Limits.{most_blocks, largest_quota, words_of_block}
-use Rattle.bk_object.specs.Modes.{is_within}
+use Rattle.bk_object.specs.Modes.{is_within, no_modes}
 use Rattle.bk_object.specs.Pairs.{split_pairs}
+use Rattle.bk_object.specs.Rows.{most_subjects}
 use Rattle.bk_object.specs.declared.kind.Kind.{Kind}
 use Rattle.bk_object.specs.declared.kind.Kind.TheVariants.{Directory, Segment, Mailbox, Line}
 use Rattle.bk_object.specs.declared.facts.Facts.{Facts}
@@ -20,9 +21,11 @@ use Rattle.bk_state.specs.Start.{object_from, is_line}
 use Rattle.bk_state.specs.declared.image.ObjectRec.{ObjectRec}
 use Rattle.bk_image.specs.declared.fault.ImageFault.{ImageFault}
 use Rattle.bk_image.specs.declared.fault.ImageField.TheVariants as field
+use Rattle.bk_image.specs.declared.version.Version.{Version}
 use Rattle.bk_image.specs.Parts.{Rest, Reads, Check, ◌>>=◌, first_failing, part, checked, last, is_outside}
 use Rattle.bk_image.specs.Numbers.{byte, word, words_of, path_in, path_at}
 use Rattle.bk_image.specs.Subjects.{is_listed}
+use Rattle.bk_image.specs.Versions.{bytes_of_row, record_size}
 
 -- ---- the objects by path, as the state has them
 
@@ -63,21 +66,29 @@ blocks_of Segment blocks = blocks
 blocks_of Mailbox blocks = blocks
 blocks_of (Line n) blocks = 0
 
--- the facts that 28 bytes tell
-abbrev pub facts_of : List ℕ → Facts
-facts_of b = record {
+-- the row that its bytes tell: two sets for each, and nothing for the subjects after those
+abbrev pub row_of : (pairs : List ℕ) → List Modes
+row_of pairs = split_pairs pairs ++ replicate (most_subjects - 2 * length pairs) no_modes
+
+-- the facts that an object's bytes tell
+abbrev pub facts_of : Version → List ℕ → Facts
+facts_of version b = record {
   kind = kind_of (byte b 4) (byte b 5);
   blocks = blocks_of (kind_of (byte b 4) (byte b 5)) (byte b 5);
   level = byte b 6;
   quota = word b 8;
-  row = split_pairs (take 16 (drop 10 b));
+  row = row_of (take (bytes_of_row version) (drop 10 b));
 }
 
--- the object that 28 bytes and words tell
-abbrev pub object_of : List ℕ → List ℕ → ObjectRec
-object_of b words = record { path = path_at b 0; facts = facts_of b; words = words }
+-- the object that its bytes and words tell
+abbrev pub object_of : Version → List ℕ → List ℕ → ObjectRec
+object_of version b words = record { path = path_at b 0; facts = facts_of version b; words = words }
 
--- what the 28 bytes tell besides the value: the words are a path, the kind is one, the zero byte is 0; and the word count
+-- the count of words, behind the row
+abbrev pub count_in : Version → List ℕ → ℕ
+count_in version b = word b (10 + bytes_of_row version)
+
+-- what the bytes tell besides the value: the words are a path, the kind is one, the zero byte is 0; and the word count
 pub record Told : Type 0 where
   pub path : Bool
   pub kind : Bool
@@ -85,8 +96,8 @@ pub record Told : Type 0 where
   pub count : ℕ
 
 -- the same from the bytes
-abbrev pub told_by : List ℕ → Told
-told_by b = record { path = not (is_none (path_in b 0)); kind = not (nat_lt 3 (byte b 4)); zero = byte b 7 == 0; count = word b 26 }
+abbrev pub told_by : Version → List ℕ → Told
+told_by version b = record { path = not (is_none (path_in b 0)); kind = not (nat_lt 3 (byte b 4)); zero = byte b 7 == 0; count = count_in version b }
 
 -- the first is root, and each other one stands above the last: a path comes before what it begins
 abbrev pub path_follows : Option ObjectRec → Path → Bool
@@ -160,41 +171,41 @@ words_checks words =
     (field.Contents, is_zero (last words))
     ∷ []
 
--- those of 28 bytes
-abbrev pub object_fails : List Level → (subjects lines : ℕ) → List ObjectRec → List ℕ → List Check
-object_fails levels subjects lines before b = object_checks levels subjects lines before (told_by b) (object_of b [])
+-- those of an object's bytes
+abbrev pub object_fails : Version → List Level → (subjects lines : ℕ) → List ObjectRec → List ℕ → List Check
+object_fails version levels subjects lines before b = object_checks levels subjects lines before (told_by version b) (object_of version b [])
 
 -- a fault of the words, too, is told of the first byte of the record, but for their being long or at an end
-unfoldable pub object_at : List Level → (subjects lines : ℕ) → List ObjectRec → Rest → Reads ObjectRec
-object_at levels subjects lines before rest = do
-  b ← checked 28 (object_fails levels subjects lines before) (λ b. b) rest
-  w ← part (2 * word b.0 26) b.1
+unfoldable pub object_at : Version → List Level → (subjects lines : ℕ) → List ObjectRec → Rest → Reads ObjectRec
+object_at version levels subjects lines before rest = do
+  b ← checked (record_size version) (object_fails version levels subjects lines before) (λ b. b) rest
+  w ← part (2 * count_in version b.0) b.1
   passed ← first_failing rest.at (words_checks (words_of w.0))
-  Ok (object_of b.0 (words_of w.0), w.1)
+  Ok (object_of version b.0 (words_of w.0), w.1)
 
 -- ---- after all objects
 
 -- the bytes of an object and its words
-abbrev pub size : ObjectRec → ℕ
-size o = 28 + 2 * length o.words
+abbrev pub size : Version → ObjectRec → ℕ
+size version o = record_size version + 2 * length o.words
 
 -- more of the object's cell is used than there is
 abbrev pub is_over : Objects → ObjectRec → Bool
 is_over all o = has_cell all o && nat_lt o.facts.quota (used_at all o.path)
 
 -- the first object whose cell is used over its limit; the objects stand from the place on
-unfoldable pub quotas_at : Objects → List ObjectRec → ℕ → Result (Unit {0}) ImageFault
-quotas_at all [] at = Ok tt
-quotas_at all (o ∷ objects) at = do
+unfoldable pub quotas_at : Version → Objects → List ObjectRec → ℕ → Result (Unit {0}) ImageFault
+quotas_at version all [] at = Ok tt
+quotas_at version all (o ∷ objects) at = do
   passed ← first_failing at ((field.Quota, is_over all o) ∷ [])
-  quotas_at all objects (at + size o)
+  quotas_at version all objects (at + size version o)
 
 -- there are fewer line objects than lines
 abbrev pub lacks_lines : (lines : ℕ) → List ObjectRec → Bool
 lacks_lines lines objects = nat_lt (count_by (λ o. is_any_line o.facts.kind) objects) lines
 
 -- used over the limit, told of the directory's record; and lines, told of byte 10, where their number stands
-unfoldable pub after_objects : (lines : ℕ) → List ObjectRec → (start : ℕ) → Result (Unit {0}) ImageFault
-after_objects lines objects start = do
-  quotas ← quotas_at (objects_in objects) objects start
+unfoldable pub after_objects : Version → (lines : ℕ) → List ObjectRec → (start : ℕ) → Result (Unit {0}) ImageFault
+after_objects version lines objects start = do
+  quotas ← quotas_at version (objects_in objects) objects start
   first_failing 10 ((field.Lines, lacks_lines lines objects) ∷ [])

@@ -1,11 +1,10 @@
 -- The one spelling of each part.
-use Rattle.std.specs.Prelude.{◌≡◌, ℕ, ◌+◌, ◌*◌, ◌/◌, ◌%◌, take, List, [], ◌∷◌, ◌++◌, length, map, flat_map}
-use Rattle.std.specs.List.{range_with_len}
+use Rattle.std.specs.Prelude.{◌≡◌, ℕ, ◌/◌, ◌%◌, take, List, [], ◌∷◌, ◌++◌, length, flat_map}
 use Rattle.bk_level.specs.Levels.{Level}
-use Rattle.bk_level.specs.Masks.{mask_of}
+use Rattle.bk_level.specs.Masks.{mask_of, words_of}
 use Rattle.bk_path.specs.Paths.{Path, pack}
 use Rattle.bk_object.specs.Kinds.{kind_number, blocks_or_line}
-use Rattle.bk_object.specs.Rows.{in_row}
+use Rattle.bk_object.specs.Pairs.{joined_pairs}
 use Rattle.bk_object.specs.declared.facts.Facts.{Facts}
 use Rattle.bk_object.specs.declared.modes.Modes.{Modes}
 use Rattle.bk_space.specs.declared.Mode.{Mode}
@@ -15,7 +14,9 @@ use Rattle.bk_state.specs.declared.image.Hold.{Hold}
 use Rattle.bk_state.specs.declared.image.ObjectRec.{ObjectRec}
 use Rattle.bk_state.specs.declared.image.SubjectRec.{SubjectRec}
 use Rattle.bk_state.specs.declared.image.WindowRec.{WindowRec}
+use Rattle.bk_image.specs.declared.version.Version.{Version}
 use Rattle.bk_image.specs.Header.{Header}
+use Rattle.bk_image.specs.Versions.{version_number, category_words, subjects_of, version_for}
 
 -- two bytes, the low one first
 abbrev pub word_bytes : ℕ → List ℕ
@@ -30,15 +31,15 @@ words_bytes (n ∷ ns) = word_bytes n ++ words_bytes ns
 unfoldable pub path_bytes : Path → List ℕ
 path_bytes path = word_bytes (pack path).0 ++ word_bytes (pack path).1
 
--- BLPK, version 1, turns and the six counts
+-- BLPK, the version, turns and the six counts
 abbrev pub header_bytes : Header → List ℕ
 header_bytes h =
-    (66 ∷ 76 ∷ 80 ∷ 75 ∷ []) ++ word_bytes 1 ++ word_bytes h.turns
+    (66 ∷ 76 ∷ 80 ∷ 75 ∷ []) ++ word_bytes (version_number h.version) ++ word_bytes h.turns
     ++ (h.levels ∷ []) ++ (h.subjects ∷ []) ++ (h.lines ∷ []) ++ (h.schedule ∷ []) ++ word_bytes h.objects ++ word_bytes h.holds
 
--- class, zero and the mask of the categories
-abbrev pub level_bytes : Level → List ℕ
-level_bytes level = level.class ∷ 0 ∷ word_bytes (mask_of level.categories)
+-- class, zero and the first words of the categories, as many as the version has
+abbrev pub level_bytes : Version → Level → List ℕ
+level_bytes version level = level.class ∷ 0 ∷ words_bytes (take (category_words version) (words_of (mask_of level.categories)))
 
 -- the number of a mode of the processor
 abbrev pub mode_number : Mode → ℕ
@@ -63,30 +64,27 @@ subject_bytes s = subject_record s ++ flat_map window_bytes s.windows
 unfoldable pub kind_bytes : Facts → List ℕ
 kind_bytes facts = kind_number facts.kind ∷ blocks_or_line facts.kind facts.blocks ∷ facts.level ∷ 0 ∷ []
 
--- a byte of a row: the subject of twice its place in the low half, and the next one in the high half
-abbrev pub row_byte : List Modes → (place : ℕ) → ℕ
-row_byte row place = (in_row row (2 * place)).0 + 16 * (in_row row (2 * place + 1)).0
+-- the sets of the version's subjects, two to a byte, the lower number in the low half
+unfoldable pub row_bytes : Version → List Modes → List ℕ
+row_bytes version row = joined_pairs (take (subjects_of version) row)
 
--- all 16 bytes of a row
-unfoldable pub row_bytes : List Modes → List ℕ
-row_bytes row = map (row_byte row) (range_with_len 0 16)
-
--- the 28 bytes of an object
-abbrev pub object_record : ObjectRec → List ℕ
-object_record o =
-    path_bytes o.path ++ kind_bytes o.facts ++ word_bytes o.facts.quota ++ row_bytes o.facts.row ++ word_bytes (length o.words)
+-- the bytes of an object
+abbrev pub object_record : Version → ObjectRec → List ℕ
+object_record version o =
+    path_bytes o.path ++ kind_bytes o.facts ++ word_bytes o.facts.quota ++ row_bytes version o.facts.row ++ word_bytes (length o.words)
 
 -- its record, and then its words
-unfoldable pub object_bytes : ObjectRec → List ℕ
-object_bytes o = object_record o ++ words_bytes o.words
+unfoldable pub object_bytes : Version → ObjectRec → List ℕ
+object_bytes version o = object_record version o ++ words_bytes o.words
 
 -- subject, modes and path
 abbrev pub hold_bytes : Hold → List ℕ
 hold_bytes hold = hold.subject ∷ hold.modes.0 ∷ path_bytes hold.path
 
--- the counts of an image
+-- the version and the counts of an image
 abbrev pub header_of : Image → Header
 header_of image = record {
+  version = version_for image;
   turns = image.turns;
   levels = length image.levels;
   subjects = length image.subjects;
@@ -96,11 +94,11 @@ header_of image = record {
   holds = length image.holds;
 }
 
--- the bytes of an image: its parts, one after the other
+-- the bytes of an image: its parts, one after the other, in the version that is for it
 unfoldable pub spelling : Image → List ℕ
 spelling image =
-    header_bytes (header_of image) ++ flat_map level_bytes image.levels ++ image.schedule ++ flat_map subject_bytes image.subjects
-    ++ flat_map object_bytes image.objects ++ flat_map hold_bytes image.holds
+    header_bytes (header_of image) ++ flat_map (level_bytes (version_for image)) image.levels ++ image.schedule ++ flat_map subject_bytes image.subjects
+    ++ flat_map (object_bytes (version_for image)) image.objects ++ flat_map hold_bytes image.holds
 
 -- the first n bytes are the image's spelling
 pub record IsSpelt (bytes : List ℕ) (image : Image) (n : ℕ) : Type 0 where

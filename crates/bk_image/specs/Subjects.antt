@@ -1,23 +1,26 @@
 -- Levels, the schedule, and subjects with their windows.
 use Rattle.std.specs.Prelude.{ℕ, ◌%◌, Bool, true, not, ◌&&◌, ◌||◌, ◌==◌, nat_lt, if◌then◌else◌, List, [], ◌∷◌, length, take, drop, Option, Some, None, is_none}
-use Rattle.std.specs.Prelude.{Ok}
+use Rattle.std.specs.Prelude.{Result, Ok}
 use Rattle.std.specs.List.{list_all}
 use Rattle.bk_level.specs.Levels.{Level, dominates, has_level, level_at as level_in}
-use Rattle.bk_level.specs.Masks.{categories_of}
+use Rattle.bk_level.specs.Masks.{categories_of, mask_in}
 use Rattle.bk_process.specs.NewProcess.{windows_of_process}
 use Rattle.bk_space.specs.declared.Mode.{Mode}
 use Rattle.bk_space.specs.declared.Mode.TheVariants.{Supervisor, User}
 use Rattle.bk_state.specs.declared.image.SubjectRec.{SubjectRec}
 use Rattle.bk_state.specs.declared.image.WindowRec.{WindowRec}
+use Rattle.bk_image.specs.declared.fault.ImageFault.{ImageFault}
 use Rattle.bk_image.specs.declared.fault.ImageField.TheVariants as field
-use Rattle.bk_image.specs.Parts.{Rest, Reads, Check, ◌>>=◌, checked, each_of, last}
+use Rattle.bk_image.specs.declared.version.Version.{Version}
+use Rattle.bk_image.specs.Parts.{Rest, Reads, Check, ◌>>=◌, first_failing, checked, each_of, last}
 use Rattle.bk_image.specs.Numbers.{byte, word, words_of, path_in, path_at}
+use Rattle.bk_image.specs.Versions.{level_size, is_needless}
 
--- ---- level: class, zero, categories
+-- ---- level: class, zero, words of categories
 
--- the level that four bytes tell
+-- the level that the bytes tell, by as many words as they have
 abbrev pub level_of : List ℕ → Level
-level_of b = record { class = byte b 0; categories = categories_of (word b 2) }
+level_of b = record { class = byte b 0; categories = categories_of (mask_in (words_of (drop 2 b))) }
 
 -- the zero byte is 0 or not, and the level after those before it
 abbrev pub level_checks : List Level → (zero : Bool) → Level → List Check
@@ -26,9 +29,13 @@ level_checks before zero level =
     ∷ (field.Level, has_level before level)
     ∷ []
 
--- four bytes
-unfoldable pub level_at : List Level → Rest → Reads Level
-level_at before = checked 4 (λ b. level_checks before (byte b 1 == 0) (level_of b)) level_of
+-- as many bytes as the version has for a level
+unfoldable pub level_at : Version → List Level → Rest → Reads Level
+level_at version before = checked (level_size version) (λ b. level_checks before (byte b 1 == 0) (level_of b)) level_of
+
+-- after the last level, told of byte 4, where the version stands: it is 2, though version 1 could say it
+unfoldable pub after_levels : Version → (subjects : ℕ) → List Level → Result (Unit {0}) ImageFault
+after_levels version subjects levels = first_failing 4 ((field.Version, is_needless version subjects levels) ∷ [])
 
 -- ---- schedule: a subject's number
 

@@ -19,6 +19,7 @@ rest_of rest = record { at = rest.at; bytes = rest.bytes.now }
 -- the header
 abbrev pub header_in : header_code.Header → Header
 header_in header = record {
+  version = header.version;
   turns = header.turns;
   levels = header.levels;
   subjects = header.subjects;

@@ -1,5 +1,5 @@
 -- Writing: what doesn't fit its field is refused at 0; then the bytes have to be an image.
-use Rattle.std.specs.Prelude.{◌≡◌, ℕ, ◌<◌, Bool, true, ◌&&◌, ◌==◌, nat_lt, if◌then◌else◌, List, All, length, Result, Ok}
+use Rattle.std.specs.Prelude.{◌≡◌, ℕ, ◌<◌, ◌^◌, Bool, true, ◌&&◌, ◌==◌, nat_lt, if◌then◌else◌, List, All, length, Result, Ok}
 use Rattle.std.specs.List.{list_all}
 use Rattle.bk_level.specs.Levels.{Level}
 use Rattle.bk_level.specs.Masks.{mask_of, categories_of}
@@ -16,9 +16,12 @@ use Rattle.bk_state.specs.declared.image.WindowRec.{WindowRec}
 use Rattle.bk_state.specs.declared.image.Hold.{Hold}
 use Rattle.bk_image.specs.declared.fault.ImageFault.{ImageFault}
 use Rattle.bk_image.specs.declared.fault.ImageField.TheVariants as field
+use Rattle.bk_image.specs.declared.version.Version.{Version}
 use Rattle.bk_image.specs.Parts.{◌>>=◌, fault}
 use Rattle.bk_image.specs.Spelling.{spelling}
 use Rattle.bk_image.specs.Image.{image_of}
+use Rattle.bk_image.specs.Objects.{fits_subjects}
+use Rattle.bk_image.specs.Versions.{subjects_of, version_for}
 
 -- the number of windows fits into a byte
 abbrev pub windows_fit : SubjectRec → Bool
@@ -31,9 +34,9 @@ blocks_fit Segment blocks = true
 blocks_fit Mailbox blocks = true
 blocks_fit (Line n) blocks = blocks == 0
 
--- the number of words fits into two bytes
-abbrev pub object_fits : ObjectRec → Bool
-object_fits o = nat_lt (length o.words) 65536 && blocks_fit o.facts.kind o.facts.blocks
+-- the number of words fits into two bytes, and the row into the version's bytes: none of the subjects after those has modes
+abbrev pub object_fits : Version → ObjectRec → Bool
+object_fits version o = nat_lt (length o.words) 65536 && blocks_fit o.facts.kind o.facts.blocks && fits_subjects (subjects_of version) o.facts.row
 
 -- each count holds the number of what it counts, and each field its value
 abbrev pub counts_fit : Image → Bool
@@ -44,7 +47,7 @@ counts_fit image =
     && nat_lt (length image.objects) 65536
     && nat_lt (length image.holds) 65536
     && list_all windows_fit image.subjects
-    && list_all object_fits image.objects
+    && list_all (object_fits (version_for image)) image.objects
 
 -- the bytes of an image, or the first fault
 unfoldable pub written_image : Image → Result (List ℕ) ImageFault
@@ -52,9 +55,10 @@ written_image image = if counts_fit image then (image_of (spelling image) >>= λ
 
 -- ---- what the parts of every image have, since their types have it
 
--- the categories are those of a mask
-abbrev pub LevelFits : Level → Type 0
-LevelFits level = categories_of (mask_of level.categories) ≡ level.categories
+-- the categories are those of a mask of 48 bits
+pub record LevelFits (level : Level) : Type 0 where
+  pub small : mask_of level.categories < 2 ^ 48
+  pub back : categories_of (mask_of level.categories) ≡ level.categories
 
 -- a window shows a path
 abbrev pub WindowFits : WindowRec → Type 0

@@ -11,12 +11,13 @@ use crate::fault::{ImageField, ImageStop};
 use crate::limits::{MOST_HOLDS, MOST_LINES, MOST_OBJECTS, MOST_PLACES, MOST_TURNS};
 use crate::part::{bad, part, word};
 use crate::rest::Rest;
+use crate::version::Version;
 use bk_level::MOST_LEVELS;
-use bk_object::MOST_SUBJECTS;
 
-/// The turns of a slot, and how many parts of each kind there are.
+/// The version, the turns of a slot, and how many parts of each kind there are.
 #[derive(Clone, Copy)]
 pub(crate) struct Header {
+    pub(crate) version: Version,
     pub(crate) turns: u16,
     pub(crate) levels: u8,
     pub(crate) subjects: u8,
@@ -76,15 +77,16 @@ pub(crate) fn read_header(rest: &mut Rest) -> Result<Header, ImageStop>
     ensures exact { Gives (λ header. (header_in header, rest_of rest.new)) result (header_at (rest_of rest.old)) }
 {
     magic(rest)?;
-    word_of(rest, ImageField::Version, 1, 1)?;
+    let version = Version::of(word_of(rest, ImageField::Version, 1, 2)?);
     let turns = word_of(rest, ImageField::Turns, 1, MOST_TURNS)?;
     let levels = byte_of(rest, ImageField::Counts, 1, MOST_LEVELS as u8)?;
-    let subjects = byte_of(rest, ImageField::Counts, 1, MOST_SUBJECTS)?;
+    let subjects = byte_of(rest, ImageField::Counts, 1, version.subjects())?;
     let lines = byte_of(rest, ImageField::Counts, 0, MOST_LINES)?;
     let schedule = byte_of(rest, ImageField::Counts, 1, MOST_PLACES)?;
     let objects = word_of(rest, ImageField::Counts, 1, MOST_OBJECTS)?;
     let holds = word_of(rest, ImageField::Counts, 0, MOST_HOLDS)?;
     Ok(Header {
+        version,
         turns,
         levels,
         subjects,

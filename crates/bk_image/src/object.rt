@@ -1,4 +1,4 @@
-// Objects: the 28 bytes of each, its checks, and its words.
+// Objects: the bytes of each, by the version 28 or 44, its checks, and its words.
 
 ghost use Rattle.std.specs.Prelude.{◌≡◌, ◌≤◌, ◌+◌, ◌*◌, ◌&&◌, ◌||◌, ◌==◌, not, nat_lt, true, [], length, sum_by, take, drop, IfOk, MatchResult, Some};
 ghost use Rattle.std.specs.List.{list_any};
@@ -12,6 +12,7 @@ ghost use Rattle.bk_image.specs.Numbers as numbers;
 ghost use Rattle.bk_base.specs.declared.stop.Stop.TheVariants as stop;
 ghost use Rattle.bk_image.specs.Parts.{Gives, each_of, first_failing, last};
 ghost use Rattle.bk_image.specs.Objects as model;
+ghost use Rattle.bk_image.specs.Versions.{bytes_of_row, record_size};
 ghost use Rattle.bk_image.specs.Views.{rest_of, IsAscending};
 
 use crate::fault::{ImageField, ImageStop};
@@ -20,6 +21,7 @@ use crate::part::{bad, part, path_in, word};
 use crate::rest::Rest;
 use crate::row::{fits_modes, fits_subjects, row_of};
 use crate::subject::dominates_at;
+use crate::version::Version;
 use bk_base::Words;
 use bk_level::LevelTable;
 use bk_object::{Facts, Kind, LARGEST_QUOTA, MOST_BLOCKS, WORDS_OF_BLOCK};
@@ -50,10 +52,10 @@ fn blocks_of(kind: Kind, blocks: u8) -> u8
     }
 }
 
-// The facts that 28 bytes tell.
-fn facts_of(bytes: &[u8]) -> Facts
-    requires { length bytes.now ≡ 28 }
-    ensures { result ≡ model.facts_of bytes.now }
+// The facts that an object's bytes tell.
+fn facts_of(version: Version, bytes: &[u8]) -> Facts
+    requires { length bytes.now ≡ record_size version }
+    ensures { result ≡ model.facts_of version bytes.now }
 {
     let kind = kind_of(bytes[4], bytes[5]);
     Facts {
@@ -61,18 +63,19 @@ fn facts_of(bytes: &[u8]) -> Facts
         blocks: blocks_of(kind, bytes[5]),
         level: bytes[6],
         quota: word(bytes, 8),
-        row: row_of(pairs_of(bytes)),
+        row: row_of(pairs_of(version, bytes)),
     }
 }
 
-// The 16 bytes of the row.
-fn pairs_of(bytes: &[u8]) -> &[u8]
-    requires { length bytes.now ≡ 28 }
-    ensures value { result.now ≡ take 16 (drop 10 bytes.now) }
-    ensures whole { length result.now ≡ 16 }
+// The bytes of the row.
+fn pairs_of(version: Version, bytes: &[u8]) -> &[u8]
+    requires { length bytes.now ≡ record_size version }
+    ensures value { result.now ≡ take (bytes_of_row version) (drop 10 bytes.now) }
+    ensures whole { length result.now ≡ bytes_of_row version }
+    ensures few { length result.now ≤ 32 }
 {
     let (_, from) = bytes.split_at(10);
-    let (pairs, _) = from.split_at(16);
+    let (pairs, _) = from.split_at(version.row_size() as usize);
     pairs
 }
 
@@ -201,6 +204,14 @@ fn words_of(alloc: Global, bytes: &[u8], count: u16) -> Result<Vec<u16>, ImageSt
     Ok(words)
 }
 
+// The count of words, behind the row.
+fn count_in(version: Version, bytes: &[u8]) -> u16
+    requires { length bytes.now ≡ record_size version }
+    ensures { result ≡ model.count_in version bytes.now }
+{
+    word(bytes, 10 + version.row_size() as usize)
+}
+
 // Whether the last word is 0.
 fn ends_in_zero(words: &[u16]) -> bool
     ensures { result ≡ model.is_zero (last words.now) }
@@ -211,26 +222,27 @@ fn ends_in_zero(words: &[u16]) -> bool
     }
 }
 
-// The checks of an object's 28 bytes, in their order; then its path.
+// The checks of an object's bytes, in their order; then its path.
 fn check(
     at: u32,
+    version: Version,
     levels: &LevelTable,
     subjects: u8,
     lines: u8,
     before: &[ObjectRec],
     bytes: &[u8],
 ) -> Result<Path, ImageStop>
-    requires whole { length bytes.now ≡ 28 }
+    requires whole { length bytes.now ≡ record_size version }
     requires subjects { subjects ≤ most_subjects }
     requires ascending { IsAscending before.now }
-    ensures exact { Gives (λ x. tt) result (first_failing at (model.object_fails levels.now subjects lines before.now bytes.now)) }
+    ensures exact { Gives (λ x. tt) result (first_failing at (model.object_fails version levels.now subjects lines before.now bytes.now)) }
     ensures path { IfOk result (λ path. path ≡ numbers.path_at bytes.now 0) }
     ensures follows { IfOk result (λ path. model.path_follows (last before.now) path ≡ true) }
 {
     match path_in(bytes, 0) {
         None => Err(bad(at, ImageField::Path)),
         Some(path) => {
-            check_at(at, levels, subjects, lines, before, bytes, path)?;
+            check_at(at, version, levels, subjects, lines, before, bytes, path)?;
             Ok(path)
         }
     }
@@ -239,6 +251,7 @@ fn check(
 // Those after the first, where the words are this path.
 fn check_at(
     at: u32,
+    version: Version,
     levels: &LevelTable,
     subjects: u8,
     lines: u8,
@@ -246,14 +259,14 @@ fn check_at(
     bytes: &[u8],
     path: Path,
 ) -> Result<(), ImageStop>
-    requires whole { length bytes.now ≡ 28 }
+    requires whole { length bytes.now ≡ record_size version }
     requires subjects { subjects ≤ most_subjects }
     requires ascending { IsAscending before.now }
     requires path { numbers.path_in bytes.now 0 ≡ Some path }
-    ensures exact { Gives (λ x. tt) result (first_failing at (model.object_fails levels.now subjects lines before.now bytes.now)) }
+    ensures exact { Gives (λ x. tt) result (first_failing at (model.object_fails version levels.now subjects lines before.now bytes.now)) }
     ensures follows { IfOk result (λ x. model.path_follows (last before.now) path ≡ true) }
 {
-    let facts = facts_of(bytes);
+    let facts = facts_of(version, bytes);
     if !follows(before, path) {
         return Err(bad(at, ImageField::Path));
     }
@@ -278,11 +291,11 @@ fn check_at(
     if !fits_cell(has_cell(before, path, facts.kind, facts.level), facts.quota) {
         return Err(bad(at, ImageField::Quota));
     }
-    let pairs = pairs_of(bytes);
+    let pairs = pairs_of(version, bytes);
     if !fits_modes(facts.kind, pairs) || !fits_subjects(subjects, pairs) {
         return Err(bad(at, ImageField::Row));
     }
-    if room(&facts) < word(bytes, 26) {
+    if room(&facts) < count_in(version, bytes) {
         return Err(bad(at, ImageField::Contents));
     }
     Ok(())
@@ -291,6 +304,7 @@ fn check_at(
 #[tactic(auto, unfolding(crate::specs::Objects::object_at))]
 fn next(
     alloc: Global,
+    version: Version,
     levels: &LevelTable,
     subjects: u8,
     lines: u8,
@@ -299,31 +313,31 @@ fn next(
 ) -> Result<ObjectRec, ImageStop>
     requires subjects { subjects ≤ most_subjects }
     requires ascending { IsAscending before.now }
-    ensures place { IfOk result (λ o. rest.new.at ≡ rest.old.at + model.size o) }
+    ensures place { IfOk result (λ o. rest.new.at ≡ rest.old.at + model.size version o) }
     ensures follows { IfOk result (λ o. model.path_follows (last before.now) o.path ≡ true) }
-    ensures exact { Gives (λ o. (o, rest_of rest.new)) result (model.object_at levels.now subjects lines before.now (rest_of rest.old)) }
+    ensures exact { Gives (λ o. (o, rest_of rest.new)) result (model.object_at version levels.now subjects lines before.now (rest_of rest.old)) }
 {
     let at = rest.at;
-    let bytes = part(rest, 28)?;
-    let path = check(at, levels, subjects, lines, before, bytes)?;
-    let count = word(bytes, 26);
+    let bytes = part(rest, version.record_size())?;
+    let path = check(at, version, levels, subjects, lines, before, bytes)?;
+    let count = count_in(version, bytes);
     let contents = part(rest, 2 * u32::from(count))?;
     let words = words_of(alloc, contents, count)?;
     if ends_in_zero(&words) {
         return Err(bad(at, ImageField::Contents));
     }
-    Ok(object_of(path, bytes, words))
+    Ok(object_of(version, path, bytes, words))
 }
 
-// The object with that path, which 28 bytes and these words tell.
-fn object_of(path: Path, bytes: &[u8], words: Vec<u16>) -> ObjectRec
-    requires whole { length bytes.now ≡ 28 }
+// The object with that path, which its bytes and these words tell.
+fn object_of(version: Version, path: Path, bytes: &[u8], words: Vec<u16>) -> ObjectRec
+    requires whole { length bytes.now ≡ record_size version }
     requires path { path ≡ numbers.path_at bytes.now 0 }
-    ensures { result ≡ model.object_of bytes.now words.items }
+    ensures { result ≡ model.object_of version bytes.now words.items }
 {
     ObjectRec {
         path,
-        facts: facts_of(bytes),
+        facts: facts_of(version, bytes),
         words: Words::from_vec(words),
     }
 }
@@ -331,6 +345,7 @@ fn object_of(path: Path, bytes: &[u8], words: Vec<u16>) -> ObjectRec
 /// So many objects.
 pub(crate) fn read_objects(
     alloc: Global,
+    version: Version,
     levels: &LevelTable,
     subjects: u8,
     lines: u8,
@@ -338,14 +353,14 @@ pub(crate) fn read_objects(
     rest: &mut Rest,
 ) -> Result<Vec<ObjectRec>, ImageStop>
     requires { subjects ≤ most_subjects }
-    ensures place { IfOk result (λ v. rest.new.at ≡ rest.old.at + sum_by model.size v.items) }
+    ensures place { IfOk result (λ v. rest.new.at ≡ rest.old.at + sum_by (model.size version) v.items) }
     ensures ascending { IfOk result (λ v. IsAscending v.items) }
     ensures few { IfOk result (λ v. length v.items ≤ 65535) }
-    ensures exact { Gives (λ v. (v.items, rest_of rest.new)) result (each_of (model.object_at levels.now subjects lines) count [] (rest_of rest.old)) }
+    ensures exact { Gives (λ v. (v.items, rest_of rest.new)) result (each_of (model.object_at version levels.now subjects lines) count [] (rest_of rest.old)) }
 {
     let mut objects = Vec::new(alloc);
     for _ in 0..count {
-        let object = next(alloc, levels, subjects, lines, &objects, rest)?;
+        let object = next(alloc, version, levels, subjects, lines, &objects, rest)?;
         objects.push(object)?;
     }
     Ok(objects)

@@ -1,13 +1,16 @@
 // The parts of an image as bytes, put at the end of those that stand already.
 
-ghost use Rattle.std.specs.Prelude.{◌≡◌, ◌++◌, ◌∷◌, ◌+◌, ◌*◌, [], ◌<◌, ℕ, All, length, map, flat_map, OnOk, IsTrue};
-ghost use Rattle.std.specs.List.{range_with_len, list_all};
+ghost use Rattle.std.specs.Prelude.{◌≡◌, ◌++◌, ◌∷◌, ◌+◌, ◌*◌, [], ◌<◌, ◌≤◌, ℕ, All, length, take, flat_map, OnOk, IsTrue};
+ghost use Rattle.std.specs.List.{list_all};
 ghost use Rattle.bk_object.specs.Rows.{in_row, most_subjects};
 ghost use Rattle.bk_path.specs.Paths.{IsPath};
 ghost use Rattle.bk_image.specs.Spelling.{word_bytes, words_bytes, path_bytes, level_bytes, mode_number, window_bytes, subject_bytes, kind_bytes};
-ghost use Rattle.bk_image.specs.Spelling.{row_byte, row_bytes, object_bytes, hold_bytes};
+ghost use Rattle.bk_image.specs.Spelling.{row_bytes, object_bytes, hold_bytes};
+ghost use Rattle.bk_image.specs.Objects.{fits_subjects};
+ghost use Rattle.bk_image.specs.Versions.{category_words, subjects_of};
 ghost use Rattle.bk_image.specs.Writing.{windows_fit, object_fits, LevelFits, WindowFits, SubjectFits, RowFits, ObjectFits, HoldFits};
 
+use crate::version::Version;
 use bitflags::Flags;
 use bk_level::Level;
 use bk_object::{Facts, Kind, Row};
@@ -45,28 +48,40 @@ fn put_path(out: &mut Vec<u8>, path: Path) -> Result<(), AllocError>
     put_word(out, second)
 }
 
-// Class, zero, and the mask of the categories.
-fn put_class(out: &mut Vec<u8>, class: u8, mask: u16) -> Result<(), AllocError>
-    ensures { OnOk result (out.new.items ≡ out.old.items ++ class ∷ 0 ∷ word_bytes mask) }
+// Class, zero, and as many words of the categories as the version has.
+fn put_class(
+    out: &mut Vec<u8>,
+    version: Version,
+    class: u8,
+    words: &[u16; 3],
+) -> Result<(), AllocError>
+    ensures { OnOk result (out.new.items ≡ out.old.items ++ class ∷ 0 ∷ words_bytes (take (category_words version) words.now)) }
 {
     out.push(class)?;
     out.push(0)?;
-    put_word(out, mask)
+    match version {
+        Version::One => put_words(out, &words[..1]),
+        Version::Two => put_words(out, words),
+    }
 }
 
-fn put_level(out: &mut Vec<u8>, level: Level) -> Result<(), AllocError>
-    ensures text { OnOk result (out.new.items ≡ out.old.items ++ level_bytes level) }
+fn put_level(out: &mut Vec<u8>, version: Version, level: Level) -> Result<(), AllocError>
+    ensures text { OnOk result (out.new.items ≡ out.old.items ++ level_bytes version level) }
     ensures fits { LevelFits level }
 {
-    put_class(out, level.class, level.cats)
+    put_class(out, version, level.class, &level.cats)
 }
 
-pub(crate) fn put_levels(out: &mut Vec<u8>, levels: &[Level]) -> Result<(), AllocError>
-    ensures text { OnOk result (out.new.items ≡ out.old.items ++ flat_map level_bytes levels.now) }
+pub(crate) fn put_levels(
+    out: &mut Vec<u8>,
+    version: Version,
+    levels: &[Level],
+) -> Result<(), AllocError>
+    ensures text { OnOk result (out.new.items ≡ out.old.items ++ flat_map (level_bytes version) levels.now) }
     ensures fits { OnOk result (All LevelFits levels.now) }
 {
     for level in levels {
-        put_level(out, *level)?;
+        put_level(out, version, *level)?;
     }
     Ok(())
 }
@@ -123,8 +138,8 @@ pub(crate) fn put_subjects(out: &mut Vec<u8>, subjects: &[SubjectRec]) -> Result
 
 // A byte of a row: two subjects, the lower one in its low half.
 fn row_byte(row: &Row, place: u8) -> u8
-    requires { place < 16 }
-    ensures value { result ≡ row_byte row.now place }
+    requires { place < 32 }
+    ensures value { result ≡ (in_row row.now (2 * place)).0 + 16 * (in_row row.now (2 * place + 1)).0 }
     ensures low { (in_row row.now (2 * place)).0 < 16 }
     ensures high { (in_row row.now (2 * place + 1)).0 < 16 }
     ensures sets { length row.now ≡ most_subjects }
@@ -135,11 +150,12 @@ fn row_byte(row: &Row, place: u8) -> u8
 }
 
 #[tactic(auto, unfolding(crate::specs::Spelling::row_bytes))]
-fn put_row(out: &mut Vec<u8>, row: &Row) -> Result<(), AllocError>
-    ensures text { OnOk result (out.new.items ≡ out.old.items ++ row_bytes row.now) }
+fn put_row(out: &mut Vec<u8>, version: Version, row: &Row) -> Result<(), AllocError>
+    requires { IsTrue (fits_subjects (subjects_of version) row.now) }
+    ensures text { OnOk result (out.new.items ≡ out.old.items ++ row_bytes version row.now) }
     ensures fits { OnOk result (RowFits row.now) }
 {
-    for place in 0..16u8 {
+    for place in 0..version.row_size() {
         out.push(row_byte(row, place))?;
     }
     Ok(())
@@ -158,27 +174,31 @@ fn put_kind(out: &mut Vec<u8>, facts: &Facts) -> Result<(), AllocError>
 }
 
 #[tactic(auto, unfolding(crate::specs::Spelling::object_bytes))]
-fn put_object(out: &mut Vec<u8>, o: &ObjectRec) -> Result<(), AllocError>
-    requires { IsTrue (object_fits o.now) }
-    ensures text { OnOk result (out.new.items ≡ out.old.items ++ object_bytes o.now) }
+fn put_object(out: &mut Vec<u8>, version: Version, o: &ObjectRec) -> Result<(), AllocError>
+    requires { IsTrue (object_fits version o.now) }
+    ensures text { OnOk result (out.new.items ≡ out.old.items ++ object_bytes version o.now) }
     ensures fits { OnOk result (ObjectFits o.now) }
 {
     let words = o.words.as_slice();
     put_path(out, o.path)?;
     put_kind(out, &o.facts)?;
     put_word(out, o.facts.quota)?;
-    put_row(out, &o.facts.row)?;
+    put_row(out, version, &o.facts.row)?;
     put_word(out, words.len() as u16)?;
     put_words(out, words)
 }
 
-pub(crate) fn put_objects(out: &mut Vec<u8>, objects: &[ObjectRec]) -> Result<(), AllocError>
-    requires { IsTrue (list_all object_fits objects.now) }
-    ensures text { OnOk result (out.new.items ≡ out.old.items ++ flat_map object_bytes objects.now) }
+pub(crate) fn put_objects(
+    out: &mut Vec<u8>,
+    version: Version,
+    objects: &[ObjectRec],
+) -> Result<(), AllocError>
+    requires { IsTrue (list_all (object_fits version) objects.now) }
+    ensures text { OnOk result (out.new.items ≡ out.old.items ++ flat_map (object_bytes version) objects.now) }
     ensures fits { OnOk result (All ObjectFits objects.now) }
 {
     for o in objects {
-        put_object(out, o)?;
+        put_object(out, version, o)?;
     }
     Ok(())
 }

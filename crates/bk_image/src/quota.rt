@@ -13,6 +13,7 @@ use crate::fault::{ImageField, ImageStop};
 use crate::lookup::ByPath;
 use crate::object::{has_cell, level_of};
 use crate::part::bad;
+use crate::version::Version;
 use bk_object::{Facts, Kind};
 use bk_path::Path;
 use bk_quota::{charge_of, governing};
@@ -91,18 +92,23 @@ fn first_of(found: Option<u32>, at: u32, is_over: bool) -> Option<u32>
 }
 
 // No cell is used over its limit; the objects stand from the place on.
-fn check_quotas(objects: &[ObjectRec], shares: &[Share], start: u32) -> Result<(), ImageStop>
+fn check_quotas(
+    version: Version,
+    objects: &[ObjectRec],
+    shares: &[Share],
+    start: u32,
+) -> Result<(), ImageStop>
     requires ascending { IsAscending objects.now }
     requires shares { shares.now ≡ map (λ o. share_at (model.objects_in objects.now) o.path o.facts) objects.now }
     requires few { length shares.now < 2 ^ 16 }
-    requires fits { start + sum_by model.size objects.now ≤ most_bytes }
-    ensures { Gives (λ x. tt) result (model.quotas_at (model.objects_in objects.now) objects.now start) }
+    requires fits { start + sum_by (model.size version) objects.now ≤ most_bytes }
+    ensures { Gives (λ x. tt) result (model.quotas_at version (model.objects_in objects.now) objects.now start) }
 {
     let mut at = start;
     let mut found = None;
     for object in objects {
         found = first_of(found, at, is_over(objects, shares, object));
-        at += 28 + 2 * object.words.as_slice().len() as u32;
+        at += version.record_size() + 2 * object.words.as_slice().len() as u32;
     }
     match found {
         Some(at) => Err(bad(at, ImageField::Quota)),
@@ -136,17 +142,18 @@ fn line_objects(objects: &[ObjectRec]) -> usize
 #[tactic(auto, unfolding(crate::specs::Objects::after_objects))]
 pub(crate) fn check_objects(
     alloc: Global,
+    version: Version,
     lines: u8,
     objects: &[ObjectRec],
     start: u32,
 ) -> Result<(), ImageStop>
     requires ascending { IsAscending objects.now }
     requires few { length objects.now < 2 ^ 16 }
-    requires fits { start + sum_by model.size objects.now ≤ most_bytes }
-    ensures { Gives (λ x. tt) result (model.after_objects lines objects.now start) }
+    requires fits { start + sum_by (model.size version) objects.now ≤ most_bytes }
+    ensures { Gives (λ x. tt) result (model.after_objects version lines objects.now start) }
 {
     let shares = shares_of(alloc, objects)?;
-    check_quotas(objects, &shares, start)?;
+    check_quotas(version, objects, &shares, start)?;
     if line_objects(objects) < lines as usize {
         return Err(bad(10, ImageField::Lines));
     }

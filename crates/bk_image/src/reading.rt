@@ -18,6 +18,7 @@ use crate::quota::check_objects;
 use crate::rest::Rest;
 use crate::schedule::read_schedule;
 use crate::subject::read_subjects;
+use crate::version::check_version;
 use bk_base::Bytes;
 use bk_state::{Holds, Image, Objects, Subjects};
 use std::alloc::Global;
@@ -27,19 +28,21 @@ fn next(alloc: Global, rest: &mut Rest) -> Result<Image, ImageStop>
     ensures { Gives (λ image. (image, rest_of rest.new)) result (image_at (rest_of rest.old)) }
 {
     let header = read_header(rest)?;
-    let levels = read_levels(header.levels, rest)?;
+    let levels = read_levels(header.version, header.levels, rest)?;
+    check_version(header.version, header.subjects, &levels)?;
     let schedule = read_schedule(alloc, header.subjects, header.schedule, rest)?;
     let subjects = read_subjects(alloc, &levels, header.subjects, rest)?;
     let start = rest.at;
     let objects = read_objects(
         alloc,
+        header.version,
         &levels,
         header.subjects,
         header.lines,
         header.objects,
         rest,
     )?;
-    check_objects(alloc, header.lines, &objects, start)?;
+    check_objects(alloc, header.version, header.lines, &objects, start)?;
     let holds = read_holds(alloc, &levels, &subjects, &objects, header.holds, rest)?;
     Ok(Image {
         turns: header.turns,

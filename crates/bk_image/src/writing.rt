@@ -4,15 +4,19 @@ ghost use Rattle.std.specs.Prelude.{◌≡◌, ◌++◌, ◌∷◌, [], ℕ, Lis
 ghost use Rattle.std.specs.List.{list_all};
 ghost use Rattle.bk_image.specs.Parts.{Gives};
 ghost use Rattle.bk_image.specs.Image.{image_of};
+ghost use Rattle.bk_image.specs.Objects.{fits_subjects};
 ghost use Rattle.bk_image.specs.Spelling.{word_bytes, header_bytes, header_of, spelling};
+ghost use Rattle.bk_image.specs.Versions.{version_number, version_for};
 ghost use Rattle.bk_image.specs.Writing.{windows_fit, blocks_fit, object_fits, counts_fit, Fits, written_image};
 
 use crate::fault::{ImageField, ImageStop};
 use crate::part::bad;
 use crate::put::{put_holds, put_levels, put_objects, put_subjects, put_word};
 use crate::reading::read_image;
+use crate::version::{Version, version_for};
+use bitflags::Flags;
 use bk_level::{Level, LevelTable};
-use bk_object::Kind;
+use bk_object::{Kind, MOST_SUBJECTS, Row};
 use bk_state::{Image, ObjectRec, SubjectRec};
 use std::alloc::{AllocError, Global};
 
@@ -38,17 +42,31 @@ fn blocks_fit(kind: Kind, blocks: u8) -> bool
     }
 }
 
-fn object_fits(o: &ObjectRec) -> bool
-    ensures { result ≡ object_fits o.now }
+// Whether no subject from the number on has modes.
+fn fits_subjects(subjects: u8, row: &Row) -> bool
+    ensures { result ≡ fits_subjects subjects row.now }
 {
-    o.words.as_slice().len() < 65536 && blocks_fit(o.facts.kind, o.facts.blocks)
+    for subject in 0..MOST_SUBJECTS {
+        if row.get(subject).bits() != 0 && subject >= subjects {
+            return false;
+        }
+    }
+    true
 }
 
-fn all_objects_fit(objects: &[ObjectRec]) -> bool
-    ensures { result ≡ list_all object_fits objects.now }
+fn object_fits(version: Version, o: &ObjectRec) -> bool
+    ensures { result ≡ object_fits version o.now }
+{
+    o.words.as_slice().len() < 65536
+        && blocks_fit(o.facts.kind, o.facts.blocks)
+        && fits_subjects(version.subjects(), &o.facts.row)
+}
+
+fn all_objects_fit(version: Version, objects: &[ObjectRec]) -> bool
+    ensures { result ≡ list_all (object_fits version) objects.now }
 {
     for o in objects {
-        if !object_fits(o) {
+        if !object_fits(version, o) {
             return false;
         }
     }
@@ -56,7 +74,8 @@ fn all_objects_fit(objects: &[ObjectRec]) -> bool
 }
 
 // Whether each count holds the number of what it counts, and each field its value.
-fn counts_fit(levels: &[Level], image: &Image) -> bool
+fn counts_fit(version: Version, levels: &[Level], image: &Image) -> bool
+    requires { version ≡ version_for (record image.now { levels = levels.now }) }
     ensures { result ≡ counts_fit (record image.now { levels = levels.now }) }
 {
     let subjects = image.subjects.as_slice();
@@ -67,15 +86,15 @@ fn counts_fit(levels: &[Level], image: &Image) -> bool
         && objects.len() < 65536
         && image.holds.as_slice().len() < 65536
         && all_windows_fit(subjects)
-        && all_objects_fit(objects)
+        && all_objects_fit(version, objects)
 }
 
-// The magic, version 1, and the turns of a slot.
-fn put_turns(out: &mut Vec<u8>, turns: u16) -> Result<(), AllocError>
-    ensures { OnOk result (out.new.items ≡ out.old.items ++ (66 ∷ 76 ∷ 80 ∷ 75 ∷ []) ++ word_bytes 1 ++ word_bytes turns) }
+// The magic, the version, and the turns of a slot.
+fn put_turns(out: &mut Vec<u8>, version: Version, turns: u16) -> Result<(), AllocError>
+    ensures { OnOk result (out.new.items ≡ out.old.items ++ (66 ∷ 76 ∷ 80 ∷ 75 ∷ []) ++ word_bytes (version_number version) ++ word_bytes turns) }
 {
     out.extend_from_slice(b"BLPK")?;
-    put_word(out, 1)?;
+    put_word(out, version.number())?;
     put_word(out, turns)
 }
 
@@ -96,13 +115,19 @@ fn put_counts(
     Ok(())
 }
 
-fn put_header(out: &mut Vec<u8>, levels: &[Level], image: &Image) -> Result<(), AllocError>
-    requires { IsTrue (counts_fit (record image.now { levels = levels.now })) }
+fn put_header(
+    out: &mut Vec<u8>,
+    version: Version,
+    levels: &[Level],
+    image: &Image,
+) -> Result<(), AllocError>
+    requires version { version ≡ version_for (record image.now { levels = levels.now }) }
+    requires counts { IsTrue (counts_fit (record image.now { levels = levels.now })) }
     ensures { OnOk result (out.new.items ≡ out.old.items ++ header_bytes (header_of (record image.now { levels = levels.now }))) }
 {
     let subjects = image.subjects.as_slice().len() as u8;
     let schedule = image.schedule.as_slice().len() as u8;
-    put_turns(out, image.turns)?;
+    put_turns(out, version, image.turns)?;
     put_counts(out, levels.len() as u8, subjects, image.lines, schedule)?;
     put_word(out, image.objects.as_slice().len() as u16)?;
     put_word(out, image.holds.as_slice().len() as u16)
@@ -110,17 +135,23 @@ fn put_header(out: &mut Vec<u8>, levels: &[Level], image: &Image) -> Result<(), 
 
 // The bytes of an image with these levels, whose fields fit.
 #[tactic(auto, unfolding(crate::specs::Spelling::spelling))]
-fn spell(alloc: Global, levels: &[Level], image: &Image) -> Result<Vec<u8>, AllocError>
-    requires { IsTrue (counts_fit (record image.now { levels = levels.now })) }
+fn spell(
+    alloc: Global,
+    version: Version,
+    levels: &[Level],
+    image: &Image,
+) -> Result<Vec<u8>, AllocError>
+    requires version { version ≡ version_for (record image.now { levels = levels.now }) }
+    requires counts { IsTrue (counts_fit (record image.now { levels = levels.now })) }
     ensures text { IfOk result (λ bytes. bytes.items ≡ spelling (record image.now { levels = levels.now })) }
     ensures fits { IfOk result (λ bytes. Fits (record image.now { levels = levels.now })) }
 {
     let mut out = Vec::new(alloc);
-    put_header(&mut out, levels, image)?;
-    put_levels(&mut out, levels)?;
+    put_header(&mut out, version, levels, image)?;
+    put_levels(&mut out, version, levels)?;
     out.extend_from_slice(image.schedule.as_slice())?;
     put_subjects(&mut out, image.subjects.as_slice())?;
-    put_objects(&mut out, image.objects.as_slice())?;
+    put_objects(&mut out, version, image.objects.as_slice())?;
     put_holds(&mut out, image.holds.as_slice())?;
     Ok(out)
 }
@@ -136,10 +167,11 @@ pub fn write_with_levels(
     ensures exact { Gives (λ bytes. bytes.items) result (written_image (record image.now { levels = levels.now })) }
     ensures fits { IfOk result (λ bytes. Fits (record image.now { levels = levels.now })) }
 {
-    if !counts_fit(levels, image) {
+    let version = version_for(levels, image);
+    if !counts_fit(version, levels, image) {
         return Err(bad(0, ImageField::Counts));
     }
-    let bytes = spell(alloc, levels, image)?;
+    let bytes = spell(alloc, version, levels, image)?;
     read_image(alloc, &bytes)?;
     Ok(bytes)
 }
@@ -155,10 +187,12 @@ fn listed(alloc: Global, table: &LevelTable) -> Result<Vec<Level>, AllocError>
     Ok(levels)
 }
 
-/// The bytes of an image: its one spelling.
+/// The bytes of an image: its one spelling, in version 1 exactly where it has at most 32 subjects and no category over 15,
+/// and else in version 2.
 ///
-/// `Bad` is `counts` at 0 where the fields of the format can't hold the value: a count has more to count than it can hold, or
-/// a line has blocks. Otherwise it is the first fault of the bytes, where they are no image. The format is this project's own.
+/// `Bad` is `counts` at 0 where the fields of the format can't hold the value: a count has more to count than it can hold, a
+/// line has blocks, or a row grants something to a subject beyond those that the version's rows have room for. Otherwise it
+/// is the first fault of the bytes, where they are no image. The format is this project's own.
 pub fn write_image(alloc: Global, image: &Image) -> Result<Vec<u8>, ImageStop>
     // What is written, or why there is nothing to write.
     ensures exact { Gives (λ bytes. bytes.items) result (written_image image.now) }

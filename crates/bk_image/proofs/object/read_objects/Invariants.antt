@@ -7,8 +7,8 @@ use Rattle.bk_image.proofs.object.read_objects.Given as goal
 
 abbrev pub invariant-loop : goal.invariant-loop
 invariant-loop l = record {
-  exact : each_of (object_at l.levels l.subjects l.lines) (l.count - l.counter) l.objects.items (rest_of l.rest) ≡ each_of (object_at l.levels l.subjects l.lines) l.count [] (rest_of l.initial.rest);
-  place : l.rest.at ≡ l.initial.rest.at + sum_by size l.objects.items;
+  exact : each_of (object_at l.version l.levels l.subjects l.lines) (l.count - l.counter) l.objects.items (rest_of l.rest) ≡ each_of (object_at l.version l.levels l.subjects l.lines) l.count [] (rest_of l.initial.rest);
+  place : l.rest.at ≡ l.initial.rest.at + sum_by (size l.version) l.objects.items;
   ascending : IsAscending l.objects.items;
   few : length l.objects.items ≡ l.counter;
 }

@@ -10,6 +10,6 @@ loop-level-preserved c =
     let level = c.level-item.result in
     let here : StandsAt levels i level = record { within = c.loop-level-test.true; is = c.level-item.is } in
     record {
-      text = text_next level_bytes levels i level here c.args.out.now.items c.loop-level.out.items c.put_level.new.out.items c.loop-level.invariant.text c.in_ok-put_level.ensures.text;
+      text = text_next (level_bytes c.args.version) levels i level here c.args.out.now.items c.loop-level.out.items c.put_level.new.out.items c.loop-level.invariant.text c.in_ok-put_level.ensures.text;
       fits = fits_next LevelFits levels i level here c.loop-level.invariant.fits c.put_level.ensures.fits;
     }

@@ -6,6 +6,6 @@ use Rattle.bk_image.proofs.put.put_levels.Given as goal
 
 abbrev pub invariant-loop-level : goal.invariant-loop-level
 invariant-loop-level l = record {
-  text : l.out.items ≡ l.fn.out.items ++ flat_map level_bytes (take l.level-index l.levels);
+  text : l.out.items ≡ l.fn.out.items ++ flat_map (level_bytes l.version) (take l.level-index l.levels);
   fits : All LevelFits (take l.level-index l.levels);
 }

@@ -10,7 +10,7 @@ loop-o-preserved c =
     let one = c.o-item.result in
     let here : StandsAt all i one = record { within = c.loop-o-test.true; is = c.o-item.is } in
     record {
-      text = text_next object_bytes all i one here c.args.out.now.items c.loop-o.out.items c.put_object.new.out.items c.loop-o.invariant.text (c.in_ok-put_object.ensures.text);
+      text = text_next (object_bytes c.args.version) all i one here c.args.out.now.items c.loop-o.out.items c.put_object.new.out.items c.loop-o.invariant.text (c.in_ok-put_object.ensures.text);
       fits = fits_next ObjectFits all i one here c.loop-o.invariant.fits c.in_ok-put_object.ensures.fits;
-      left = left_next object_fits all i c.loop-o.invariant.left;
+      left = left_next (object_fits c.args.version) all i c.loop-o.invariant.left;
     }

@@ -6,6 +6,6 @@ use Rattle.bk_image.proofs.quota.check_quotas.Given as goal
 
 abbrev pub invariant-loop-object : goal.invariant-loop-object
 invariant-loop-object l = record {
-  exact : told l.found (quotas_at (objects_in l.objects) (drop l.object-index l.objects) l.at) ≡ quotas_at (objects_in l.objects) l.objects l.start;
-  fits : l.at + sum_by size (drop l.object-index l.objects) ≤ 524288;
+  exact : told l.found (quotas_at l.version (objects_in l.objects) (drop l.object-index l.objects) l.at) ≡ quotas_at l.version (objects_in l.objects) l.objects l.start;
+  fits : l.at + sum_by (size l.version) (drop l.object-index l.objects) ≤ 524288;
 }

@@ -1,11 +1,16 @@
-use Rattle.std.proofs.Common.{◌≡◌, ◌+◌, drop, [], ap, sym, ◌∙◌, arith}
+use Rattle.std.proofs.Common.{◌-◌, ◌*◌, ◌≤◌, length, refl, ap, sym, ◌∙◌, arith}
+use Rattle.std.proofs.Math.ListN.{drop_of_length-le}
+use Rattle.bk_object.specs.Kinds.{kind_modes}
+use Rattle.bk_object.specs.Modes.{is_within}
 use Rattle.bk_object.specs.Pairs.{split_pairs}
 use Rattle.bk_image.specs.Objects.{fits_modes}
-use Rattle.bk_image.proofs.Pairs.{length-split_pairs, drop_all}
+use Rattle.bk_image.proofs.Pairs.{length-split_pairs, all_before}
 use Rattle.bk_image.proofs.row.fits_modes.Goals as goal
 
 pub returns : goal.returns
 returns c =
-    let all : drop 32 (split_pairs c.args.pairs.now) ≡ [] = ap (λ n. drop n (split_pairs c.args.pairs.now)) (sym (length-split_pairs c.args.pairs.now ∙ (λ i. c.requires i + c.requires i))) ∙ drop_all (split_pairs c.args.pairs.now) in
-    let last : c.loop-subject.subject ≡ 32 = omega (arith, c.loop-subject-test.false, c.loop-subject.auto.subject-end) in
-    sym (ap (λ xs. fits_modes c.args.kind xs) (ap (λ n. drop n (split_pairs c.args.pairs.now)) last ∙ all)) ∙ c.loop-subject.invariant
+    let sets = split_pairs c.args.pairs.now in
+    let past : length sets ≤ c.loop-subject.subject = omega (arith, c.loop-subject-test.false, c.subjects_in-subject-end.ensures, length-split_pairs c.args.pairs.now) in
+    sym (ap (fits_modes c.args.kind) (drop_of_length-le sets past))
+    ∙ c.loop-subject.invariant
+    ∙ sym (all_before (λ modes. is_within modes (kind_modes c.args.kind)) refl sets (64 - 2 * length c.args.pairs.now) 0)

@@ -1,12 +1,15 @@
-use Rattle.std.proofs.Common.{◌≡◌, ◌+◌, drop, [], ap, sym, ◌∙◌, arith}
-use Rattle.bk_object.specs.Pairs.{split_pairs}
+use Rattle.std.proofs.Common.{◌-◌, ◌*◌, ◌≤◌, length, refl, ap, sym, ◌∙◌, arith}
+use Rattle.std.proofs.Math.ListN.{drop_of_length-le}
 use Rattle.std.specs.Prelude.{◌==◌}
 use Rattle.std.specs.List.{list_all}
-use Rattle.bk_image.proofs.Pairs.{length-split_pairs, drop_all}
+use Rattle.bk_object.specs.Pairs.{split_pairs}
+use Rattle.bk_image.proofs.Pairs.{length-split_pairs, all_before}
 use Rattle.bk_image.proofs.row.fits_subjects.Goals as goal
 
 pub returns : goal.returns
 returns c =
-    let all : drop 32 (split_pairs c.args.pairs.now) ≡ [] = ap (λ n. drop n (split_pairs c.args.pairs.now)) (sym (length-split_pairs c.args.pairs.now ∙ (λ i. c.requires.pairs i + c.requires.pairs i))) ∙ drop_all (split_pairs c.args.pairs.now) in
-    let last : c.loop-subject.subject ≡ 32 = omega (arith, c.loop-subject-test.false, c.loop-subject.auto.subject-end, c.requires.subjects) in
-    sym (ap (λ xs. list_all (λ modes. modes.0 == 0) xs) (ap (λ n. drop n (split_pairs c.args.pairs.now)) last ∙ all)) ∙ c.loop-subject.invariant
+    let sets = split_pairs c.args.pairs.now in
+    let past : length sets ≤ c.loop-subject.subject = omega (arith, c.loop-subject-test.false, c.subjects_in-subject-end.ensures, length-split_pairs c.args.pairs.now) in
+    sym (ap (list_all (λ modes. modes.0 == 0)) (drop_of_length-le sets past))
+    ∙ c.loop-subject.invariant
+    ∙ sym (all_before (λ modes. modes.0 == 0) refl sets (64 - 2 * length c.args.pairs.now) c.args.subjects)

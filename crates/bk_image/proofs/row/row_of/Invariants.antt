@@ -4,4 +4,4 @@ use Rattle.bk_object.specs.Pairs.{split_pairs}
 use Rattle.bk_image.proofs.row.row_of.Given as goal
 
 abbrev pub invariant-loop-subject : goal.invariant-loop-subject
-invariant-loop-subject l = l.row ≡ take l.subject (split_pairs l.pairs) ++ replicate (32 - l.subject) no_modes
+invariant-loop-subject l = l.row ≡ take l.subject (split_pairs l.pairs) ++ replicate (64 - l.subject) no_modes
