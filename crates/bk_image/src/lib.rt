@@ -45,4 +45,5 @@ pub use bk_state::{
 pub use fault::{ImageFault, ImageField, ImageStop};
 pub use laws::{law_example, law_no_prefix, law_version};
 pub use reading::read_image;
+pub use version::Version;
 pub use writing::{write_image, write_with_levels};

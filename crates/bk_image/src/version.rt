@@ -13,9 +13,9 @@ use crate::part::bad;
 use bk_level::{Level, LevelTable};
 use bk_state::Image;
 
-/// The version of an image: 32 subjects and 16 categories, or 64 and 48.
+/// The version of an image: at most 32 subjects and categories below 16, or at most 64 subjects and categories below 48.
 #[derive(Clone, Copy, PartialEq, Eq, Debug)]
-pub(crate) enum Version {
+pub enum Version {
     One,
     Two,
 }
