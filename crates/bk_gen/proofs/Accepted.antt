@@ -22,7 +22,7 @@ use Rattle.bk_gen.specs.Subjects.{numbers_below, subjects_made, generated_levels
 use Rattle.bk_gen.specs.Objects.{granting, group, generated_objects}
 use Rattle.bk_gen.specs.Image.{generated_image}
 use Rattle.bk_gen.proofs.ReadParts.{counts, from_levels, from_schedule, from_subjects, from_objects, from_holds}
-use Rattle.bk_gen.proofs.ReadParts.{spelling_is, header_is, levels_are, schedule_is, subjects_are, objects_are, holds_are}
+use Rattle.bk_gen.proofs.ReadParts.{spelling_is, header_is, levels_are, said_is, schedule_is, subjects_are, objects_are, holds_are}
 use Rattle.bk_gen.proofs.Quota.{objects_pass}
 
 -- one part after another
@@ -32,6 +32,7 @@ image_read =
     let schedule = numbers_below subjects_made in
     ap (λ (r : Reads Header). r >>= step.image_from_header) header_is
     ∙ ap (λ (r : Reads (List Level)). r >>= step.image_from_levels counts) levels_are
+    ∙ ap (λ (r : Result (Unit {0}) ImageFault). r >>= λ said. step.image_from_said counts generated_levels (from 32 from_schedule)) said_is
     ∙ ap (λ (r : Reads (List ℕ)). r >>= step.image_from_schedule counts generated_levels) schedule_is
     ∙ ap (λ (r : Reads (List SubjectRec)). r >>= step.image_from_subjects counts generated_levels schedule) subjects_are
     ∙ ap (λ (r : Reads (List ObjectRec)). r >>= step.image_from_objects counts generated_levels schedule generated_subjects 392) objects_are

@@ -16,10 +16,12 @@ use Rattle.bk_state.specs.declared.image.ObjectRec.{ObjectRec}
 use Rattle.bk_state.specs.declared.image.SubjectRec.{SubjectRec}
 use Rattle.bk_image.specs.declared.fault.ImageField.TheVariants as field
 use Rattle.bk_image.specs.Parts.{Rest, Reads, Check, ◌>>=◌, first_failing, part, checked, last, is_outside}
-use Rattle.bk_image.specs.Numbers.{word, words_of, path_in}
+use Rattle.bk_image.specs.Numbers.{words_of, path_in}
 use Rattle.bk_image.specs.Subjects.{is_listed}
 use Rattle.bk_image.specs.Objects.{Told, objects_in, facts_at, has_cell, told_by, object_of, path_follows, fits_kind, fits_cell, fits_modes}
-use Rattle.bk_image.specs.Objects.{fits_subjects, room, words_checks, object_at}
+use Rattle.bk_image.specs.Objects.{fits_subjects, room, words_checks, count_in, object_at}
+use Rattle.bk_image.specs.Versions.{record_size}
+use Rattle.bk_image.specs.declared.version.Version.{Version}
 use Rattle.bk_image.specs.Holds.{hold_of, hold_follows, hold_at, greatest_in, current_in, fits_ss, fits_star}
 use Rattle.bk_image.proofs.SecureFound.{get_listed}
 
@@ -65,25 +67,27 @@ checks_by above levels subjects lines before told o =
     ∷ (field.Contents, nat_lt (room o.facts) told.count)
     ∷ []
 
--- the checks of 28 bytes
-abbrev pub fails_by : List Level → (subjects lines : ℕ) → List ObjectRec → List ℕ → List Check
-fails_by levels subjects lines before b = checks_by (found before (parent (object_of b []).path)) levels subjects lines before (told_by b) (object_of b [])
+-- the checks of an object's bytes
+abbrev pub fails_by : Version → List Level → (subjects lines : ℕ) → List ObjectRec → List ℕ → List Check
+fails_by version levels subjects lines before b =
+    checks_by (found before (parent (object_of version b []).path)) levels subjects lines before (told_by version b) (object_of version b [])
 
 -- an object that is read with the checks of its bytes
-abbrev reading : (List ObjectRec → List ℕ → List Check) → List ObjectRec → Rest → Reads ObjectRec
-reading fails before rest = do
-  b ← checked 28 (fails before) (λ b. b) rest
-  w ← part (2 * word b.0 26) b.1
+abbrev reading : Version → (List ObjectRec → List ℕ → List Check) → List ObjectRec → Rest → Reads ObjectRec
+reading version fails before rest = do
+  b ← checked (record_size version) (fails before) (λ b. b) rest
+  w ← part (2 * count_in version b.0) b.1
   passed ← first_failing rest.at (words_checks (words_of w.0))
-  Ok (object_of b.0 (words_of w.0), w.1)
+  Ok (object_of version b.0 (words_of w.0), w.1)
 
 -- an object that is read by what is found
-abbrev pub object_by : List Level → (subjects lines : ℕ) → List ObjectRec → Rest → Reads ObjectRec
-object_by levels subjects lines = reading (fails_by levels subjects lines)
+abbrev pub object_by : Version → List Level → (subjects lines : ℕ) → List ObjectRec → Rest → Reads ObjectRec
+object_by version levels subjects lines = reading version (fails_by version levels subjects lines)
 
-pub object_at_is : (levels : List Level) (subjects lines : ℕ) → object_at levels subjects lines ≡ object_by levels subjects lines
+pub object_at_is : (version : Version) (levels : List Level) (subjects lines : ℕ) → object_at version levels subjects lines ≡ object_by version levels subjects lines
 unfolding object_at
-object_at_is levels subjects lines = λ i. reading (λ before b. checks_by (facts_are before (parent (object_of b []).path) i) levels subjects lines before (told_by b) (object_of b []))
+object_at_is version levels subjects lines = λ i.
+    reading version (λ before b. checks_by (facts_are before (parent (object_of version b []).path) i) levels subjects lines before (told_by version b) (object_of version b []))
 
 pub has_cell_is : (objects : List ObjectRec) (o : ObjectRec) → has_cell (objects_in objects) o ≡ has_cell_by (found objects (parent o.path)) o
 has_cell_is objects o = ap (λ above. has_cell_by above o) (facts_are objects (parent o.path))

@@ -2,6 +2,7 @@ pub mod Ranges
 pub mod Levels
 pub mod Rows
 pub mod Typed
+pub mod Groups
 pub mod Found
 pub mod ReadParts
 pub mod Quota

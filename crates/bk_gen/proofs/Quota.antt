@@ -20,6 +20,7 @@ use Rattle.bk_state.specs.Start.{object_from}
 use Rattle.bk_state.specs.declared.image.ObjectRec.{ObjectRec}
 use Rattle.bk_image.specs.declared.fault.ImageFault.{ImageFault}
 use Rattle.bk_image.specs.declared.fault.ImageField.TheVariants as field
+use Rattle.bk_image.specs.declared.version.Version.TheVariants.{One}
 use Rattle.bk_image.specs.Parts.{first_failing}
 use Rattle.bk_image.specs.Objects.{Objects, objects_in, has_cell, used_at, is_over, size, quotas_at, lacks_lines, after_objects}
 use Rattle.bk_gen.specs.Subjects.{numbers_below, levels_made}
@@ -122,29 +123,29 @@ no_cell_over true c h = cc
 no_cell_over false c h = refl
 
 -- where no object has a cell, none is used over its limit
-quotas_pass : (all objects : List ObjectRec) (at : ℕ) → list_all (λ o. not (has_cell_by (found all (parent o.path)) o)) objects ≡ true → quotas_at (objects_in all) objects at ≡ Ok (tt {0})
+quotas_pass : (all objects : List ObjectRec) (at : ℕ) → list_all (λ o. not (has_cell_by (found all (parent o.path)) o)) objects ≡ true → quotas_at One (objects_in all) objects at ≡ Ok (tt {0})
 unfolding quotas_at
 quotas_pass all [] at none = refl
 quotas_pass all (o ∷ objects) at none =
     let (here, rest) = and_parts (not (has_cell_by (found all (parent o.path)) o)) (list_all (λ o. not (has_cell_by (found all (parent o.path)) o)) objects) none in
     let over : is_over (objects_in all) o ≡ false = no_cell_over (has_cell (objects_in all) o) (nat_lt o.facts.quota (used_at (objects_in all) o.path)) (ap not (has_cell_is all o) ∙ here) in
-    ap (λ (b : Bool). first_failing at ((field.Quota, b) ∷ []) >>= λ passed. quotas_at (objects_in all) objects (at + size o)) over
-    ∙ quotas_pass all objects (at + size o) rest
+    ap (λ (b : Bool). first_failing at ((field.Quota, b) ∷ []) >>= λ passed. quotas_at One (objects_in all) objects (at + size One o)) over
+    ∙ quotas_pass all objects (at + size One o) rest
 
-all_quotas_pass : (at : ℕ) → quotas_at (objects_in (root ∷ below_root)) (root ∷ below_root) at ≡ Ok (tt {0})
+all_quotas_pass : (at : ℕ) → quotas_at One (objects_in (root ∷ below_root)) (root ∷ below_root) at ≡ Ok (tt {0})
 unfolding quotas_at
 all_quotas_pass at =
-    ap (λ (b : Bool). first_failing at ((field.Quota, b) ∷ []) >>= λ passed. quotas_at (objects_in (root ∷ below_root)) below_root (at + size root)) root_fits
-    ∙ quotas_pass (root ∷ below_root) below_root (at + size root) no_cells
+    ap (λ (b : Bool). first_failing at ((field.Quota, b) ∷ []) >>= λ passed. quotas_at One (objects_in (root ∷ below_root)) below_root (at + size One root)) root_fits
+    ∙ quotas_pass (root ∷ below_root) below_root (at + size One root) no_cells
 
 lines_there : first_failing 10 ((field.Lines, lacks_lines 4 (root ∷ below_root)) ∷ []) ≡ Ok (tt {0})
 unfolding below_root group granting
 lines_there = refl
 
 -- nothing is at fault after all objects
-pub objects_pass : (at : ℕ) → after_objects 4 generated_objects at ≡ Ok (tt {0})
+pub objects_pass : (at : ℕ) → after_objects One 4 generated_objects at ≡ Ok (tt {0})
 unfolding after_objects
 objects_pass at =
-    ap (λ (objects : List ObjectRec). after_objects 4 objects at) root_first
+    ap (λ (objects : List ObjectRec). after_objects One 4 objects at) root_first
     ∙ ap (λ (r : Result (Unit {0}) ImageFault). r >>= λ quotas. first_failing 10 ((field.Lines, lacks_lines 4 (root ∷ below_root)) ∷ [])) (all_quotas_pass at)
     ∙ lines_there

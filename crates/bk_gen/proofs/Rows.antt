@@ -13,7 +13,7 @@ use Rattle.bk_gen.specs.Objects.{granting}
 
 -- the row of the first subjects; no other has any modes yet
 unfoldable pub granted : (test : ℕ → Bool) → Modes → (count : ℕ) → List Modes
-granted test modes count = take count (granting test modes) ++ replicate (32 - count) no_modes
+granted test modes count = take count (granting test modes) ++ replicate (64 - count) no_modes
 
 pub granted-none : (test : ℕ → Bool) (modes : Modes) → granted test modes 0 ≡ empty_row
 unfolding granted
@@ -31,21 +31,21 @@ asked n false small = grind arith
 in_row-granting : (test : ℕ → Bool) (modes : Modes) (n : ℕ) → n < 8 → in_row (granting test modes) n ≡ (if test n then modes else no_modes)
 unfolding granting
 in_row-granting test modes n small =
-    get_or-map-range_with_len (λ s. if nat_lt s 8 && test s then modes else no_modes) 0 32 n n no_modes (omega arith) (omega arith)
+    get_or-map-range_with_len (λ s. if nat_lt s 8 && test s then modes else no_modes) 0 64 n n no_modes (omega arith) (omega arith)
     ∙ ap (λ b. cond b modes no_modes) (asked n (test n) small)
 
-whole : (test : ℕ → Bool) (modes : Modes) → length (granting test modes) ≡ 32
+whole : (test : ℕ → Bool) (modes : Modes) → length (granting test modes) ≡ 64
 unfolding granting
-whole test modes = length-map-range_with_len (λ s. if nat_lt s 8 && test s then modes else no_modes) 0 32
+whole test modes = length-map-range_with_len (λ s. if nat_lt s 8 && test s then modes else no_modes) 0 64
 
 -- the sets that are left, and the first of them
-left_sets : (n : ℕ) → n < 8 → replicate (32 - n) no_modes ≡ no_modes ∷ replicate (31 - n) no_modes
-left_sets n small = let more : 32 - n ≡ suc (31 - n) = omega arith in ap (λ k. replicate k no_modes) more
+left_sets : (n : ℕ) → n < 8 → replicate (64 - n) no_modes ≡ no_modes ∷ replicate (63 - n) no_modes
+left_sets n small = let more : 64 - n ≡ suc (63 - n) = omega arith in ap (λ k. replicate k no_modes) more
 
-next_sets : (sets : List Modes) (n : ℕ) → take (suc n) sets ++ replicate (31 - n) no_modes ≡ take (n + 1) sets ++ replicate (32 - (n + 1)) no_modes
+next_sets : (sets : List Modes) (n : ℕ) → take (suc n) sets ++ replicate (63 - n) no_modes ≡ take (n + 1) sets ++ replicate (64 - (n + 1)) no_modes
 next_sets sets n =
     let place : suc n ≡ n + 1 = omega arith in
-    let left : 31 - n ≡ 32 - (n + 1) = omega arith in
+    let left : 63 - n ≡ 64 - (n + 1) = omega arith in
     λ i. take (place i) sets ++ replicate (left i) no_modes
 
 -- a subject that passes the test gets the modes
@@ -55,7 +55,7 @@ granted-given test modes n small low passes =
     let sets = granting test modes in
     let is : modes ≡ in_row sets n = sym (in_row-granting test modes n small ∙ ap (λ b. cond b modes no_modes) passes) in
     ap (λ left. given n modes (take n sets ++ left)) (left_sets n small)
-    ∙ one_more sets n (31 - n) modes (omega (arith, whole test modes)) is low
+    ∙ one_more sets n (63 - n) modes (omega (arith, whole test modes)) is low
     ∙ next_sets sets n
 
 -- one that doesn't gets none
@@ -65,9 +65,9 @@ granted-passed test modes n small fails =
     let sets = granting test modes in
     let is : no_modes ≡ in_row sets n = sym (in_row-granting test modes n small ∙ ap (λ b. cond b modes no_modes) fails) in
     ap (λ left. take n sets ++ left) (left_sets n small)
-    ∙ sym (append_assoc (take n sets) (no_modes ∷ []) (replicate (31 - n) no_modes))
-    ∙ ap (λ set. (take n sets ++ set ∷ []) ++ replicate (31 - n) no_modes) is
-    ∙ ap (λ xs. xs ++ replicate (31 - n) no_modes) (sym (take-suc sets n no_modes (omega (arith, whole test modes))))
+    ∙ sym (append_assoc (take n sets) (no_modes ∷ []) (replicate (63 - n) no_modes))
+    ∙ ap (λ set. (take n sets ++ set ∷ []) ++ replicate (63 - n) no_modes) is
+    ∙ ap (λ xs. xs ++ replicate (63 - n) no_modes) (sym (take-suc sets n no_modes (omega (arith, whole test modes))))
     ∙ next_sets sets n
 
 -- ---- the subjects of a line

@@ -141,7 +141,7 @@ fn add_segments(
 }
 
 // A directory and its segments follow.
-#[tactic(auto, unfolding(crate::specs::Objects::group))]
+#[tactic(auto, using(crate::proofs::Groups::group_behind))]
 fn add_group(
     alloc: Global,
     objects: &mut Vec<ObjectRec>,

@@ -59,7 +59,13 @@ pub(crate) fn levels() -> LevelTable
 {
     let mut levels = LevelTable::new();
     for class in 0..LEVELS {
-        add_level(&mut levels, Level { class, cats: 0 });
+        add_level(
+            &mut levels,
+            Level {
+                class,
+                cats: [0; 3],
+            },
+        );
     }
     levels
 }
