@@ -19,7 +19,8 @@ use Rattle.bk_frames.specs.Table.{extent_at, place_of, extents_in, IsFrames, IsF
 use Rattle.bk_frames.specs.Ordered.{IsListed}
 use Rattle.bk_frames.proofs.Tables.{get-extents, place_within}
 use Rattle.bk_frames.proofs.Settled.{seen, table_apart}
-use Rattle.bk_frames.proofs.Listed.{listed-all, stacked-tight, total-compacted}
+use Rattle.bk_frames.proofs.Listed.{listed-all}
+use Rattle.bk_frames.proofs.Packed.{stacked-tight, total-compacted}
 use Rattle.bk_frames.proofs.WordsKept.{Kept, kept}
 
 -- the value of frames whose segments are those of the list

@@ -11,7 +11,7 @@ use Rattle.std.specs.FinMap.{find}
 use Rattle.bk_frames.specs.Extents.{Extent}
 use Rattle.bk_frames.specs.Ordered.{or_else, IsSettled}
 use Rattle.bk_frames.proofs.Stacked.{nothing}
-use Rattle.bk_frames.proofs.Listed.{head_ends, head_within, settle-begun, settle-next}
+use Rattle.bk_frames.proofs.Packed.{head_ends, head_within, settle-begun, settle-next}
 use Rattle.bk_frames.proofs.segments.settle_all.Goals as goal
 
 or_none : (o : Option Extent) → or_else o None ≡ o

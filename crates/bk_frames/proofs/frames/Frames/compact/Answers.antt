@@ -1,7 +1,7 @@
 use Rattle.std.proofs.Common.{arith, refl}
 use Rattle.std.specs.Vec.{vec_capacity}
 use Rattle.bk_frames.proofs.Entries.{distinct-compacted}
-use Rattle.bk_frames.proofs.Listed.{packed-compacted}
+use Rattle.bk_frames.proofs.Packed.{packed-compacted}
 use Rattle.bk_frames.proofs.Compacted.{compacting, now_stacked, now_within}
 use Rattle.bk_frames.proofs.frames.Frames.compact.Goals as goal
 

@@ -1,6 +1,6 @@
 use Rattle.std.proofs.Common.{sym, subst, Option, IfNone, ℕ}
 use Rattle.bk_frames.specs.Extents.{HasNoRoom}
-use Rattle.bk_frames.proofs.Settled.{lowest_seen, none_seen}
+use Rattle.bk_frames.proofs.Searched.{lowest_seen, none_seen}
 use Rattle.bk_frames.proofs.frames.Frames.lowest_room.Goals as goal
 
 pub returns-in_err-at-clause-none : goal.returns-in_err-at-clause-none

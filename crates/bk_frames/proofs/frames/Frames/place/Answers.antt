@@ -1,6 +1,6 @@
 use Rattle.std.proofs.Common.{◌∙◌, ap}
 use Rattle.std.specs.FinMap.{get}
-use Rattle.bk_frames.proofs.Settled.{there_inserted}
+use Rattle.bk_frames.proofs.Searched.{there_inserted}
 use Rattle.bk_frames.proofs.frames.Frames.place.Goals as goal
 
 pub returns-in-Some-clause-here : goal.returns-in-Some-clause-here

@@ -1,7 +1,7 @@
 use Rattle.std.proofs.Common.{◌∙◌, ap, arith, rules}
 use Rattle.bk_frames.specs.Table.{extents_in}
 use Rattle.bk_frames.proofs.Tables.{nothing}
-use Rattle.bk_frames.proofs.Settled.{begun}
+use Rattle.bk_frames.proofs.Searched.{begun}
 use Rattle.bk_frames.proofs.frames.Frames.reserve.Goals as goal
 
 pub invariant_of-result : goal.invariant_of-result

@@ -2,7 +2,7 @@ use Rattle.std.proofs.Common.{◌≡◌, ◌+◌, refl, sym, ap, ◌∙◌, subs
 use Rattle.std.specs.Prelude.{IsNone}
 use Rattle.std.specs.FinMap.{get}
 use Rattle.bk_frames.specs.Extents.{Standing, taken_in}
-use Rattle.bk_frames.proofs.Settled.{behind_last, free_moved, none_moved, room_behind, there_inserted}
+use Rattle.bk_frames.proofs.Searched.{behind_last, free_moved, none_moved, room_behind, there_inserted}
 use Rattle.bk_frames.proofs.frames.Frames.settle_last.Goals as goal
 
 pub settle-requires-clause-here : goal.settle-requires-clause-here
