@@ -1,3 +1,4 @@
 pub mod CountSets
 pub mod PageLemmas
+pub mod RegisterFields
 pub mod TopBits

@@ -1,3 +1,4 @@
+pub mod Direct
 pub mod Pages
 pub mod Plain
 pub mod Reached

@@ -1,7 +1,8 @@
 //! One instruction over any bus, and a plain bus.
 //!
 //! Model: `exec` of `bk_exec`; `specs/Pages.antt` (`pages_of`), `specs/Plain.antt` (`Plain`, `page_in`, `pages_written`) for the
-//! plain bus, and `specs/Reached.antt` (`Reaches`, `left_by`, `result_of`) for the parts of `step`.
+//! plain bus, `specs/Reached.antt` (`Reaches`, `left_by`, `result_of`) and `specs/Direct.antt` (`direct`) for the parts of
+//! `step`.
 //! Calls: `step`; `PlainBus::new`, `set_page`, `words`, `references`, and those of `Bus`.
 //! Proved: `step` gives the definition's registers, write, number of references and event, over any bus, for every
 //! instruction word; the plain bus is one, and its count of references stands at its last value.
@@ -11,6 +12,7 @@
 #![tactic(auto)]
 
 mod control;
+mod direct;
 mod doubles;
 mod extending;
 mod law;

@@ -1,15 +1,18 @@
 // The words that are most run are looked up here, each with its operation and width as constants of the host's code; all
-// others are decoded.
+// others are decoded. What stands in registers is done in line. The rest has a function for each code (`CODE`, the bits above
+// the fields), out of line, so that a branch saves none of the host's registers for it.
 
-ghost use Rattle.std.specs.Prelude.{◌≡◌, ◌*◌, ◌/◌, ◌%◌, OnErr, Some};
+ghost use Rattle.std.specs.Prelude.{◌≡◌, ◌<◌, ◌*◌, ◌/◌, ◌%◌, OnErr, Some};
 ghost use Rattle.bk_space.specs.Counts.{counted_on};
 ghost use Rattle.bk_space.specs.Undo.{undone, IsFresh};
 ghost use Rattle.bk_isa.specs.Codes.{IsField, HasSingle};
 ghost use Rattle.bk_isa.specs.Decode.{branches, decode_of, doubles, field_at, look_up, singles};
+ghost use Rattle.bk_space.specs.declared.reference.Width.TheVariants.{Word};
 ghost use Rattle.bk_exec.specs.Exec.{executed};
 ghost use Rattle.bk_cpu.specs.Reached.{Reaches, left_by, result_of};
 
 use crate::control::branch;
+use crate::direct::{double_direct, single_direct};
 use crate::doubles::double;
 use crate::outcome::{Outcome, outcome_of};
 use crate::singles::single;
@@ -29,9 +32,18 @@ fn field(word: u16) -> Field
     }
 }
 
-// A word of an operation with two fields.
+// The register that the low three bits of a word name.
 #[inline(always)]
-fn double_in<B: Bus>(
+fn register(word: u16) -> u8
+    ensures value { result ≡ word % 8 }
+    ensures range { result < 8 }
+{
+    (word & 7) as u8
+}
+
+// A word of an operation with two fields.
+#[inline(never)]
+fn double_in<B: Bus, const CODE: u16>(
     regs: &mut Regs,
     undo: &mut Undo,
     bus: &mut B,
@@ -49,9 +61,53 @@ fn double_in<B: Bus>(
     outcome_of(double(regs, undo, bus, op, width, field(word >> 6), field(word)))
 }
 
-// A word of an operation with one field.
+// .. on words, both of which are registers.
 #[inline(always)]
-fn single_in<B: Bus>(
+fn double_registers<B: Bus>(
+    regs: &mut Regs,
+    undo: &mut Undo,
+    bus: &mut B,
+    op: Bin,
+    word: u16,
+) -> Outcome
+    requires code { look_up doubles (word / 0o10000) ≡ Some (op, Word) }
+    requires src { word / 0o1000 % 8 ≡ 0 }
+    requires dst { word / 0o10 % 8 ≡ 0 }
+    ensures reaches { Reaches (result_of result) regs.new (executed (B.shown (B.state bus.old)) (decode_of word) regs.old) }
+    ensures count { B.references bus.new ≡ counted_on (B.references bus.old) (executed (B.shown (B.state bus.old)) (decode_of word) regs.old).made }
+    ensures state { B.state bus.new ≡ left_by B.after (B.state bus.old) (executed (B.shown (B.state bus.old)) (decode_of word) regs.old).outcome }
+    ensures undone { OnErr (result_of result) (undone undo.new regs.new ≡ undone undo.old regs.old) }
+{
+    double_direct(regs, op, register(word >> 6), register(word));
+    Outcome::Completed
+}
+
+// .. on words: in line where both are registers.
+#[inline(always)]
+fn double_word<B: Bus, const CODE: u16>(
+    regs: &mut Regs,
+    undo: &mut Undo,
+    bus: &mut B,
+    op: Bin,
+    word: u16,
+) -> Outcome
+    requires code { look_up doubles (word / 0o10000) ≡ Some (op, Word) }
+    requires fresh { IsFresh undo.old }
+    ensures reaches { Reaches (result_of result) regs.new (executed (B.shown (B.state bus.old)) (decode_of word) regs.old) }
+    ensures count { B.references bus.new ≡ counted_on (B.references bus.old) (executed (B.shown (B.state bus.old)) (decode_of word) regs.old).made }
+    ensures state { B.state bus.new ≡ left_by B.after (B.state bus.old) (executed (B.shown (B.state bus.old)) (decode_of word) regs.old).outcome }
+    ensures undone { OnErr (result_of result) (undone undo.new regs.new ≡ undone undo.old regs.old) }
+{
+    if word >> 9 & 7 == 0 && word >> 3 & 7 == 0 {
+        double_registers(regs, undo, bus, op, word)
+    } else {
+        double_in::<B, CODE>(regs, undo, bus, op, Width::Word, word)
+    }
+}
+
+// A word of an operation with one field.
+#[inline(never)]
+fn single_in<B: Bus, const CODE: u16>(
     regs: &mut Regs,
     undo: &mut Undo,
     bus: &mut B,
@@ -68,6 +124,51 @@ fn single_in<B: Bus>(
     ensures undone { OnErr (result_of result) (undone undo.new regs.new ≡ undone undo.old regs.old) }
 {
     outcome_of(single(regs, undo, bus, op, width, field(word)))
+}
+
+// .. on a word that is a register.
+#[inline(always)]
+fn single_register<B: Bus>(
+    regs: &mut Regs,
+    undo: &mut Undo,
+    bus: &mut B,
+    op: Un,
+    word: u16,
+) -> Outcome
+    requires code { look_up singles (word / 0o100) ≡ Some (op, Word) }
+    requires form { HasSingle op Word }
+    requires dst { word / 0o10 % 8 ≡ 0 }
+    ensures reaches { Reaches (result_of result) regs.new (executed (B.shown (B.state bus.old)) (decode_of word) regs.old) }
+    ensures count { B.references bus.new ≡ counted_on (B.references bus.old) (executed (B.shown (B.state bus.old)) (decode_of word) regs.old).made }
+    ensures state { B.state bus.new ≡ left_by B.after (B.state bus.old) (executed (B.shown (B.state bus.old)) (decode_of word) regs.old).outcome }
+    ensures undone { OnErr (result_of result) (undone undo.new regs.new ≡ undone undo.old regs.old) }
+{
+    single_direct(regs, op, register(word));
+    Outcome::Completed
+}
+
+// .. on a word: in line where it is a register.
+#[inline(always)]
+fn single_word<B: Bus, const CODE: u16>(
+    regs: &mut Regs,
+    undo: &mut Undo,
+    bus: &mut B,
+    op: Un,
+    word: u16,
+) -> Outcome
+    requires code { look_up singles (word / 0o100) ≡ Some (op, Word) }
+    requires form { HasSingle op Word }
+    requires fresh { IsFresh undo.old }
+    ensures reaches { Reaches (result_of result) regs.new (executed (B.shown (B.state bus.old)) (decode_of word) regs.old) }
+    ensures count { B.references bus.new ≡ counted_on (B.references bus.old) (executed (B.shown (B.state bus.old)) (decode_of word) regs.old).made }
+    ensures state { B.state bus.new ≡ left_by B.after (B.state bus.old) (executed (B.shown (B.state bus.old)) (decode_of word) regs.old).outcome }
+    ensures undone { OnErr (result_of result) (undone undo.new regs.new ≡ undone undo.old regs.old) }
+{
+    if word >> 3 & 7 == 0 {
+        single_register(regs, undo, bus, op, word)
+    } else {
+        single_in::<B, CODE>(regs, undo, bus, op, Width::Word, word)
+    }
 }
 
 // A word of a branch.
@@ -158,19 +259,19 @@ fn word_singles<B: Bus>(regs: &mut Regs, undo: &mut Undo, bus: &mut B, word: u16
     ensures undone { OnErr (result_of result) (undone undo.new regs.new ≡ undone undo.old regs.old) }
 {
     match word >> 6 {
-        0o0050 => single_in(regs, undo, bus, Un::Clr, Width::Word, word),
-        0o0051 => single_in(regs, undo, bus, Un::Com, Width::Word, word),
-        0o0052 => single_in(regs, undo, bus, Un::Inc, Width::Word, word),
-        0o0053 => single_in(regs, undo, bus, Un::Dec, Width::Word, word),
-        0o0054 => single_in(regs, undo, bus, Un::Neg, Width::Word, word),
-        0o0055 => single_in(regs, undo, bus, Un::Adc, Width::Word, word),
-        0o0056 => single_in(regs, undo, bus, Un::Sbc, Width::Word, word),
-        0o0057 => single_in(regs, undo, bus, Un::Tst, Width::Word, word),
-        0o0060 => single_in(regs, undo, bus, Un::Ror, Width::Word, word),
-        0o0061 => single_in(regs, undo, bus, Un::Rol, Width::Word, word),
-        0o0062 => single_in(regs, undo, bus, Un::Asr, Width::Word, word),
-        0o0063 => single_in(regs, undo, bus, Un::Asl, Width::Word, word),
-        0o0067 => single_in(regs, undo, bus, Un::Sxt, Width::Word, word),
+        0o0050 => single_word::<B, 0o0050>(regs, undo, bus, Un::Clr, word),
+        0o0051 => single_word::<B, 0o0051>(regs, undo, bus, Un::Com, word),
+        0o0052 => single_word::<B, 0o0052>(regs, undo, bus, Un::Inc, word),
+        0o0053 => single_word::<B, 0o0053>(regs, undo, bus, Un::Dec, word),
+        0o0054 => single_word::<B, 0o0054>(regs, undo, bus, Un::Neg, word),
+        0o0055 => single_word::<B, 0o0055>(regs, undo, bus, Un::Adc, word),
+        0o0056 => single_word::<B, 0o0056>(regs, undo, bus, Un::Sbc, word),
+        0o0057 => single_word::<B, 0o0057>(regs, undo, bus, Un::Tst, word),
+        0o0060 => single_word::<B, 0o0060>(regs, undo, bus, Un::Ror, word),
+        0o0061 => single_word::<B, 0o0061>(regs, undo, bus, Un::Rol, word),
+        0o0062 => single_word::<B, 0o0062>(regs, undo, bus, Un::Asr, word),
+        0o0063 => single_word::<B, 0o0063>(regs, undo, bus, Un::Asl, word),
+        0o0067 => single_word::<B, 0o0067>(regs, undo, bus, Un::Sxt, word),
         _ => decoded(regs, undo, bus, word),
     }
 }
@@ -185,18 +286,18 @@ fn byte_singles<B: Bus>(regs: &mut Regs, undo: &mut Undo, bus: &mut B, word: u16
     ensures undone { OnErr (result_of result) (undone undo.new regs.new ≡ undone undo.old regs.old) }
 {
     match word >> 6 {
-        0o1050 => single_in(regs, undo, bus, Un::Clr, Width::Byte, word),
-        0o1051 => single_in(regs, undo, bus, Un::Com, Width::Byte, word),
-        0o1052 => single_in(regs, undo, bus, Un::Inc, Width::Byte, word),
-        0o1053 => single_in(regs, undo, bus, Un::Dec, Width::Byte, word),
-        0o1054 => single_in(regs, undo, bus, Un::Neg, Width::Byte, word),
-        0o1055 => single_in(regs, undo, bus, Un::Adc, Width::Byte, word),
-        0o1056 => single_in(regs, undo, bus, Un::Sbc, Width::Byte, word),
-        0o1057 => single_in(regs, undo, bus, Un::Tst, Width::Byte, word),
-        0o1060 => single_in(regs, undo, bus, Un::Ror, Width::Byte, word),
-        0o1061 => single_in(regs, undo, bus, Un::Rol, Width::Byte, word),
-        0o1062 => single_in(regs, undo, bus, Un::Asr, Width::Byte, word),
-        0o1063 => single_in(regs, undo, bus, Un::Asl, Width::Byte, word),
+        0o1050 => single_in::<B, 0o1050>(regs, undo, bus, Un::Clr, Width::Byte, word),
+        0o1051 => single_in::<B, 0o1051>(regs, undo, bus, Un::Com, Width::Byte, word),
+        0o1052 => single_in::<B, 0o1052>(regs, undo, bus, Un::Inc, Width::Byte, word),
+        0o1053 => single_in::<B, 0o1053>(regs, undo, bus, Un::Dec, Width::Byte, word),
+        0o1054 => single_in::<B, 0o1054>(regs, undo, bus, Un::Neg, Width::Byte, word),
+        0o1055 => single_in::<B, 0o1055>(regs, undo, bus, Un::Adc, Width::Byte, word),
+        0o1056 => single_in::<B, 0o1056>(regs, undo, bus, Un::Sbc, Width::Byte, word),
+        0o1057 => single_in::<B, 0o1057>(regs, undo, bus, Un::Tst, Width::Byte, word),
+        0o1060 => single_in::<B, 0o1060>(regs, undo, bus, Un::Ror, Width::Byte, word),
+        0o1061 => single_in::<B, 0o1061>(regs, undo, bus, Un::Rol, Width::Byte, word),
+        0o1062 => single_in::<B, 0o1062>(regs, undo, bus, Un::Asr, Width::Byte, word),
+        0o1063 => single_in::<B, 0o1063>(regs, undo, bus, Un::Asl, Width::Byte, word),
         _ => decoded(regs, undo, bus, word),
     }
 }
@@ -224,12 +325,12 @@ pub(crate) fn execute_word<B: Bus>(
                 word_singles(regs, undo, bus, word)
             }
         }
-        0o01 => double_in(regs, undo, bus, Bin::Mov, Width::Word, word),
-        0o02 => double_in(regs, undo, bus, Bin::Cmp, Width::Word, word),
-        0o03 => double_in(regs, undo, bus, Bin::Bit, Width::Word, word),
-        0o04 => double_in(regs, undo, bus, Bin::Bic, Width::Word, word),
-        0o05 => double_in(regs, undo, bus, Bin::Bis, Width::Word, word),
-        0o06 => double_in(regs, undo, bus, Bin::Add, Width::Word, word),
+        0o01 => double_word::<B, 0o01>(regs, undo, bus, Bin::Mov, word),
+        0o02 => double_word::<B, 0o02>(regs, undo, bus, Bin::Cmp, word),
+        0o03 => double_word::<B, 0o03>(regs, undo, bus, Bin::Bit, word),
+        0o04 => double_word::<B, 0o04>(regs, undo, bus, Bin::Bic, word),
+        0o05 => double_word::<B, 0o05>(regs, undo, bus, Bin::Bis, word),
+        0o06 => double_word::<B, 0o06>(regs, undo, bus, Bin::Add, word),
         0o10 => {
             if word < 0o104000 {
                 high_branches(regs, undo, bus, word)
@@ -237,12 +338,12 @@ pub(crate) fn execute_word<B: Bus>(
                 byte_singles(regs, undo, bus, word)
             }
         }
-        0o11 => double_in(regs, undo, bus, Bin::Mov, Width::Byte, word),
-        0o12 => double_in(regs, undo, bus, Bin::Cmp, Width::Byte, word),
-        0o13 => double_in(regs, undo, bus, Bin::Bit, Width::Byte, word),
-        0o14 => double_in(regs, undo, bus, Bin::Bic, Width::Byte, word),
-        0o15 => double_in(regs, undo, bus, Bin::Bis, Width::Byte, word),
-        0o16 => double_in(regs, undo, bus, Bin::Sub, Width::Word, word),
+        0o11 => double_in::<B, 0o11>(regs, undo, bus, Bin::Mov, Width::Byte, word),
+        0o12 => double_in::<B, 0o12>(regs, undo, bus, Bin::Cmp, Width::Byte, word),
+        0o13 => double_in::<B, 0o13>(regs, undo, bus, Bin::Bit, Width::Byte, word),
+        0o14 => double_in::<B, 0o14>(regs, undo, bus, Bin::Bic, Width::Byte, word),
+        0o15 => double_in::<B, 0o15>(regs, undo, bus, Bin::Bis, Width::Byte, word),
+        0o16 => double_word::<B, 0o16>(regs, undo, bus, Bin::Sub, word),
         0o07 => decoded(regs, undo, bus, word),
         0o17 => decoded(regs, undo, bus, word),
         _ => decoded(regs, undo, bus, word),
