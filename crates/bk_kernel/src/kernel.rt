@@ -21,10 +21,10 @@ ghost use Rattle.bk_kernel.specs.Tables.{last_after, runs_after};
 
 use crate::tables::Tables;
 use crate::turn::{Items, Stretch};
-use bk_base::{Failed, Sink, write_all};
+use bk_base::{Failed, Sink};
 use bk_machine::Machine;
 use bk_process::Status9;
-use bk_report::{ReportItem, print};
+use bk_report::{ReportItem, write_line};
 use bk_system::{At, TypedAt};
 use std::marker::Model;
 
@@ -88,7 +88,7 @@ fn write_item<O: Sink>(out: &mut O, item: &Option<ReportItem>) -> Result<(), Fai
 {
     match item {
         None => Ok(()),
-        Some(item) => write_all(out, print(item).as_slice()),
+        Some(item) => write_line(out, item),
     }
 }
 
