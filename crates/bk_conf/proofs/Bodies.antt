@@ -6,9 +6,11 @@ use Rattle.std.proofs.lemmas.List.Splits.{join_with_byte-slice_split}
 use Rattle.std.proofs.lemmas.List.{append-nil}
 use Rattle.std.proofs.Math.Seq.{take-append_seam}
 use Rattle.bk_report.proofs.Splitting.{split_some}
-use Rattle.bk_conf.specs.Lines.{Text, lines_of, fields_of, ends, program_lines, text_of}
+use Rattle.bk_conf.specs.Ends.{ends_program}
+use Rattle.bk_conf.specs.Lines.{Text, lines_of, program_lines, text_of}
 use Rattle.bk_conf.specs.Views.{lines_left, size_left, HasBody}
 use Rattle.bk_conf.specs.declared.program.Body.{Body}
+use Rattle.bk_conf.proofs.Ends.{ends_front}
 
 -- so many lines before the rest of the text, none of which ends the program
 pub record Passed (text rest : Text) (lines : ℕ) : Type 0 where
@@ -25,14 +27,14 @@ pub passed_start : (text : Text) → Passed text text 0
 passed_start text = record { before = []; stands = refl; found = same (program_lines (lines_of text)); count = refl }
 
 -- a line that ends no program
-program_lines-more : (line : Text) (lines : List Text) → ends (fields_of line) ≡ false
+program_lines-more : (line : Text) (lines : List Text) → ends_program line ≡ false
     → program_lines (line ∷ lines) ≡ option_map (λ more. line ∷ more) (program_lines lines)
 unfolding program_lines
-program_lines-more line lines goes_on = rw goes_on refl
+program_lines-more line lines goes_on = rw (ends_front line, goes_on) refl
 
-program_lines-end : (line : Text) (lines : List Text) → ends (fields_of line) ≡ true → program_lines (line ∷ lines) ≡ Some []
+program_lines-end : (line : Text) (lines : List Text) → ends_program line ≡ true → program_lines (line ∷ lines) ≡ Some []
 unfolding program_lines
-program_lines-end line lines over = rw over refl
+program_lines-end line lines over = rw (ends_front line, over) refl
 
 program_lines-none : program_lines [] ≡ None
 unfolding program_lines
@@ -44,7 +46,7 @@ behind before line None = refl
 behind before line (Some more) = ap Some (sym (append_assoc before (line ∷ []) more))
 
 pub passed_more : (text rest : Text) (lines : ℕ) (line after : Text) → Passed text rest lines → lines_of rest ≡ line ∷ lines_of after
-    → ends (fields_of line) ≡ false → Passed text after (min (lines + 1) (2 ^ 32 - 1))
+    → ends_program line ≡ false → Passed text after (min (lines + 1) (2 ^ 32 - 1))
 passed_more text rest lines line after so_far first goes_on = record {
   before = so_far.before ++ line ∷ [];
   stands = so_far.stands ∙ ap (λ ls. so_far.before ++ ls) first ∙ sym (append_assoc so_far.before (line ∷ []) (lines_of after));
@@ -90,7 +92,7 @@ front_of front rest = ap (λ n. take n (front ++ rest)) (omega (arith, length-ap
 
 -- the line that ends the program
 pub passed_end : (text rest : Text) (lines : ℕ) (line : Text) (body : Body) → Passed text rest lines → lines_of rest ≡ line ∷ lines_left body.left
-    → ends (fields_of line) ≡ true → body.text.now ≡ take (length text - length rest) text → body.lines ≡ lines → size_left body.left ≤ length text → HasBody text body
+    → ends_program line ≡ true → body.text.now ≡ take (length text - length rest) text → body.lines ≡ lines → size_left body.left ≤ length text → HasBody text body
 passed_end text rest lines line body so_far first over front count shorter = record {
   lines = so_far.before;
   end = line;
@@ -108,7 +110,7 @@ passed_end text rest lines line body so_far first over front count shorter = rec
 }
 
 -- no line ends it
-pub passed_none : (text rest : Text) (lines : ℕ) (line : Text) → Passed text rest lines → lines_of rest ≡ line ∷ [] → ends (fields_of line) ≡ false
+pub passed_none : (text rest : Text) (lines : ℕ) (line : Text) → Passed text rest lines → lines_of rest ≡ line ∷ [] → ends_program line ≡ false
     → program_lines (lines_of text) ≡ None
 passed_none text rest lines line so_far first goes_on =
     so_far.found

@@ -3,6 +3,7 @@ pub mod Passing
 pub mod Zeros
 pub mod Fields
 pub mod Words
+pub mod Ends
 pub mod Bodies
 pub mod Images
 pub mod Reached

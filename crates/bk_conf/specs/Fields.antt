@@ -9,7 +9,7 @@ use Rattle.bk_space.specs.declared.Mode.{Mode}
 use Rattle.bk_space.specs.declared.Mode.TheVariants.{Supervisor, User}
 use Rattle.bk_conf.specs.declared.fault.BuildKind.{BuildKind}
 use Rattle.bk_conf.specs.declared.fault.BuildKind.TheVariants as kind
-use Rattle.bk_conf.specs.Limits.{most_letters}
+use Rattle.bk_conf.specs.Limits.{largest_mask, most_letters}
 use Rattle.bk_conf.specs.Lines.{Text}
 
 -- ---- numbers
@@ -36,6 +36,10 @@ is_decimal text = not (length text == 0) && list_all is_digit text && not (leads
 abbrev pub is_octal : Text → Bool
 is_octal text = not (length text == 0) && nat_le (length text) 6 && list_all is_octal_digit text
 
+-- a mask: an octal number, of 1 to 16 digits
+abbrev pub is_mask : Text → Bool
+is_mask text = not (length text == 0) && nat_le (length text) 16 && list_all is_octal_digit text
+
 -- the number that the digits are
 abbrev pub value_of : (base : ℕ) → Text → ℕ
 value_of base text = fold (λ n digit. base * n + (digit - 48)) 0 text
@@ -51,6 +55,10 @@ decimal_to limit text = number_to 10 limit text
 -- in octal, of 16 bits
 abbrev pub word_in : Text → Result ℕ BuildKind
 word_in text = number_to 8 65535 text
+
+-- in octal, of 48 bits
+abbrev pub bits_in : Text → Result ℕ BuildKind
+bits_in text = number_to 8 largest_mask text
 
 -- ---- paths: `/`, or `/` before each entry
 

@@ -14,7 +14,7 @@ use Rattle.bk_conf.specs.declared.line.Line.{Line}
 use Rattle.bk_conf.specs.declared.line.Line.TheVariants as line
 use Rattle.bk_conf.specs.Limits.{largest_byte, largest_word}
 use Rattle.bk_conf.specs.Lines.{Text, at}
-use Rattle.bk_conf.specs.Fields.{is_decimal, is_octal, is_path_text, are_modes, is_mode, is_space, is_name, decimal_to, word_in, path_in, modes_in, mode_in}
+use Rattle.bk_conf.specs.Fields.{is_decimal, is_octal, is_mask, is_path_text, are_modes, is_mode, is_space, is_name, decimal_to, word_in, bits_in, path_in, modes_in, mode_in}
 
 -- what a line says, from the fields behind its word; or why it says nothing
 abbrev pub Reading : Type 0
@@ -26,7 +26,7 @@ spelt well = if well then Ok tt else Err kind.Form
 
 -- the number of a subject
 abbrev pub subject_in : Text → Result ℕ BuildKind
-subject_in text = decimal_to 31 text
+subject_in text = decimal_to 63 text
 
 -- the subjects of the fields, in order, behind those before them
 unfoldable pub subjects_in : (before : List ℕ) → List Text → Result (List ℕ) BuildKind
@@ -43,10 +43,10 @@ turns_line f = do
 -- level CLASS CATS
 unfoldable pub level_line : Reading
 level_line f = do
-  well ← spelt (length f == 2 && is_decimal (at f 0) && is_octal (at f 1))
+  well ← spelt (length f == 2 && is_decimal (at f 0) && is_mask (at f 1))
   class ← decimal_to largest_byte (at f 0)
-  cats ← word_in (at f 1)
-  Ok (line.Level (record { class = class; categories = categories_of cats }))
+  mask ← bits_in (at f 1)
+  Ok (line.Level (record { class = class; categories = categories_of mask }))
 
 -- schedule S S ..
 unfoldable pub schedule_line : Reading

@@ -1,6 +1,7 @@
 pub mod Limits
 pub mod Fault
 pub mod Lines
+pub mod Ends
 pub mod Fields
 pub mod Kinds
 pub mod Said

@@ -45,7 +45,7 @@ with_schedule said at schedule = checked ((kind.Doubled, is_some said.schedule) 
   mentions = said.mentions ++ map (λ subject. named_at at (mention.Subject subject)) schedule;
 })
 
--- a subject: at most 32
+-- a subject: at most 64
 unfoldable pub with_subject : Said → SubjectLine → Result Said BuildKind
 with_subject said subject = checked ((kind.Range, length said.subjects == most_subjects) ∷ []) (record said { subjects = said.subjects ++ subject ∷ [] })
 

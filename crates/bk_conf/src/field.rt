@@ -1,6 +1,6 @@
 // What a field says.
 
-ghost use Rattle.std.specs.Prelude.{◌≡◌, ◌<◌, ◌≤◌, ◌==◌, ◌∷◌, ◌&&◌, [], ℕ, List, IsTrue, IfOk, min, not, length, drop};
+ghost use Rattle.std.specs.Prelude.{◌≡◌, ◌<◌, ◌≤◌, ◌==◌, ◌∷◌, ◌&&◌, ◌^◌, [], ℕ, List, IsTrue, IfOk, min, not, length, drop};
 ghost use Rattle.std.specs.List.{list_all, slice_split};
 ghost use Rattle.bk_conf.specs.Fields as model;
 
@@ -11,8 +11,8 @@ use bk_path::Path;
 use bk_report::cut;
 use bk_space::Mode;
 
-// A number that is over every limit of a field.
-const OVER: u32 = 1_000_000;
+// The least number that is over every limit of a field.
+const OVER: u64 = 0x1_0000_0000_0000;
 
 fn leads_with_zero(text: &[u8]) -> bool
     ensures value { result ≡ model.leads_with_zero text.now }
@@ -50,30 +50,38 @@ pub fn is_octal(text: &[u8]) -> bool
     !text.is_empty() && text.len() <= 6 && are_octal_digits(text)
 }
 
+/// Whether the field is a mask: an octal number, of 1 to 16 digits.
+pub fn is_mask(text: &[u8]) -> bool
+    ensures { result ≡ model.is_mask text.now }
+{
+    !text.is_empty() && text.len() <= 16 && are_octal_digits(text)
+}
+
 // The number that digits are, or the least that is over every limit.
-fn value_of(base: u32, text: &[u8]) -> u32
+fn value_of(base: u64, text: &[u8]) -> u64
     requires { base ≤ 10 }
-    ensures { result ≡ min 1000000 (model.value_of base text.now) }
+    ensures { result ≡ min (2 ^ 48) (model.value_of base text.now) }
 {
     let mut n = 0;
     for digit in text {
-        n = OVER.min(base * n + u32::from(digit.saturating_sub(48)));
+        n = OVER.min(base * n + u64::from(digit.saturating_sub(48)));
     }
     n
 }
 
 // The number, where it is no more than the limit.
 #[tactic(auto, unfolding(crate::specs::Fields::number_to))]
-fn number_to(base: u32, limit: u16, text: &[u8]) -> Result<u16, BuildKind>
-    requires { base ≤ 10 }
+fn number_to(base: u64, limit: u64, text: &[u8]) -> Result<u64, BuildKind>
+    requires base { base ≤ 10 }
+    requires limit { limit < 2 ^ 48 }
     ensures value { result ≡ model.number_to base limit text.now }
     ensures within { IfOk result (λ n. n ≤ limit) }
 {
     let n = value_of(base, text);
-    if u32::from(limit) < n {
+    if limit < n {
         return Err(BuildKind::Range);
     }
-    Ok(n as u16)
+    Ok(n)
 }
 
 /// A decimal number of one byte, up to the limit.
@@ -81,21 +89,29 @@ pub fn byte_to(limit: u8, text: &[u8]) -> Result<u8, BuildKind>
     ensures value { result ≡ model.decimal_to limit text.now }
     ensures within { IfOk result (λ n. n ≤ limit) }
 {
-    Ok(number_to(10, u16::from(limit), text)? as u8)
+    Ok(number_to(10, u64::from(limit), text)? as u8)
 }
 
 /// A decimal number of two bytes.
 pub fn word_to(limit: u16, text: &[u8]) -> Result<u16, BuildKind>
     ensures { result ≡ model.decimal_to limit text.now }
 {
-    number_to(10, limit, text)
+    Ok(number_to(10, u64::from(limit), text)? as u16)
 }
 
 /// An octal number of two bytes.
 pub fn word_in(text: &[u8]) -> Result<u16, BuildKind>
     ensures { result ≡ model.word_in text.now }
 {
-    number_to(8, 65535, text)
+    Ok(number_to(8, 65535, text)? as u16)
+}
+
+/// An octal number of 48 bits.
+pub fn bits_in(text: &[u8]) -> Result<u64, BuildKind>
+    ensures value { result ≡ model.bits_in text.now }
+    ensures within { IfOk result (λ n. n < 2 ^ 48) }
+{
+    number_to(8, 0xFFFF_FFFF_FFFF, text)
 }
 
 // The parts between slashes: whether each is a decimal number.

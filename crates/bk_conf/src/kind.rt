@@ -1,16 +1,17 @@
 // The kinds of line.
 
-ghost use Rattle.std.specs.Prelude.{◌≡◌, ◌<◌, ◌==◌, [], ◌∷◌, IfOk, length};
+ghost use Rattle.std.specs.Prelude.{◌≡◌, ◌<◌, ◌==◌, ◌^◌, [], ◌∷◌, IfOk, length};
 ghost use Rattle.std.specs.List.{list_all};
 ghost use Rattle.bk_base.specs.Faults.{Gives};
+ghost use Rattle.bk_level.specs.Masks.{mask_in};
 ghost use Rattle.bk_conf.specs.Fields.{is_decimal, is_octal};
 ghost use Rattle.bk_conf.specs.Kinds as model;
 ghost use Rattle.bk_conf.specs.Views.{texts};
 
 use crate::fault::{BuildKind, KindStop};
 use crate::field::{
-    are_modes, byte_to, is_decimal, is_mode, is_name, is_octal, is_path, is_space, mode_in,
-    modes_in, path_in, word_in, word_to,
+    are_modes, bits_in, byte_to, is_decimal, is_mask, is_mode, is_name, is_octal, is_path,
+    is_space, mode_in, modes_in, path_in, word_in, word_to,
 };
 use crate::line::{Line, SubjectLine};
 use bk_base::Bytes;
@@ -56,14 +57,26 @@ fn turns_line(f: &[&[u8]]) -> Result<Line, BuildKind>
     }
 }
 
+// The words of a mask, the lowest first.
+fn words_of(mask: u64) -> [u16; 3]
+    requires { mask < 2 ^ 48 }
+    ensures { mask_in result ≡ mask }
+{
+    [
+        (mask % 0x1_0000) as u16,
+        (mask / 0x1_0000 % 0x1_0000) as u16,
+        (mask / 0x1_0000_0000) as u16,
+    ]
+}
+
 #[tactic(auto, unfolding(crate::specs::Kinds::level_line))]
 fn level_line(f: &[&[u8]]) -> Result<Line, BuildKind>
     ensures { result ≡ model.level_line (texts f.now) }
 {
     match f {
-        [class, cats] if is_decimal(class) && is_octal(cats) => Ok(Line::Level(Level {
+        [class, cats] if is_decimal(class) && is_mask(cats) => Ok(Line::Level(Level {
             class: byte_to(255, class)?,
-            cats: word_in(cats)?,
+            cats: words_of(bits_in(cats)?),
         })),
         _ => Err(BuildKind::Form),
     }

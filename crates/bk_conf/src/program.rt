@@ -14,7 +14,7 @@ ghost use Rattle.bk_conf.specs.Views.{HasBody, said_of};
 use crate::adding::has_words;
 use crate::fault::{BuildFault, BuildKind, BuildStop};
 use crate::said::{Named, Said};
-use crate::text::{Left, ends, fields_of, first_line};
+use crate::text::{Left, ends_program, first_line};
 use bk_asm::{AsmFault, AsmStop, Program, assemble};
 use bk_base::{Bytes, Words};
 use std::alloc::{AllocError, Global};
@@ -27,25 +27,25 @@ pub struct Body<'a> {
     pub left: Left<'a>,
 }
 
-/// The lines up to the one that ends a program. It takes memory for fields.
+/// The lines up to the one that ends a program.
 #[tactic(auto, using(crate::proofs::Bodies::passed_start, crate::proofs::Bodies::passed_more, crate::proofs::Bodies::passed_end, crate::proofs::Bodies::passed_none))]
-pub fn body_of<'a>(alloc: Global, text: &'a [u8]) -> Result<Option<Body<'a>>, AllocError>
-    ensures found { IfOk result (λ body. IfSome body (HasBody text.now)) }
-    ensures none { IfOk result (λ body. IfNone body (program_lines (lines_of text.now) ≡ None)) }
+pub fn body_of<'a>(text: &'a [u8]) -> Option<Body<'a>>
+    ensures found { IfSome result (HasBody text.now) }
+    ensures none { IfNone result (program_lines (lines_of text.now) ≡ None) }
 {
     let mut lines = 0u32;
     let mut rest = text;
     'lines: loop {
         let (line, after) = first_line(rest);
-        if ends(&fields_of(alloc, line)?) {
-            return Ok(Some(Body {
+        if ends_program(line) {
+            return Some(Body {
                 text: text.split_at(text.len() - rest.len()).0,
                 lines,
                 left: after,
-            }));
+            });
         }
         match after {
-            None => return Ok(None),
+            None => return None,
             Some(after) => {
                 lines = lines.saturating_add(1);
                 rest = after;

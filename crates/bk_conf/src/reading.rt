@@ -73,7 +73,7 @@ impl Said {
         let Some(text) = after else {
             return Err(bad(at, BuildKind::Form));
         };
-        let Some(body) = body_of(alloc, text)? else {
+        let Some(body) = body_of(text) else {
             return Err(bad(at, BuildKind::Form));
         };
         match self.program(alloc, at, name, origin, body) {

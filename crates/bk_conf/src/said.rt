@@ -63,6 +63,6 @@ pub struct Said {
     pub words: BTreeMap<Vec<u8>, Words>,
     pub mentions: Vec<Mentioned>,
 
-    ghost few_subjects: { length subjects.items ≤ 32 },
+    ghost few_subjects: { length subjects.items ≤ 64 },
     ghost few_lines: { lines ≤ 16 },
 }

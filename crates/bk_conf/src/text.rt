@@ -2,9 +2,11 @@
 
 ghost use Rattle.std.specs.Prelude.{◌≡◌, ◌<◌, ◌≤◌, ◌==◌, ◌∷◌, [], not, map, filter, length, IfOk};
 ghost use Rattle.std.specs.List.{slice_split};
-ghost use Rattle.bk_conf.specs.Lines.{content, ends, fields_of, is_blank, lines_of};
+ghost use Rattle.bk_conf.specs.Ends.{ends_program, is_over};
+ghost use Rattle.bk_conf.specs.Lines.{content, fields_of, is_blank, lines_of};
 ghost use Rattle.bk_conf.specs.Views.{lines_left, size_left, texts};
 
+use bk_expr::past_blanks;
 use bk_report::cut;
 use std::alloc::{AllocError, Global};
 
@@ -67,12 +69,25 @@ pub fn fields_of(alloc: Global, line: &[u8]) -> Result<Vec<&[u8]>, AllocError>
     some_of(alloc, &parts)
 }
 
-/// Whether the fields are those of the line that ends a program.
-pub fn ends(fields: &[&[u8]]) -> bool
-    ensures { result ≡ ends (texts fields.now) }
+// Whether nothing is left but blanks and a comment.
+fn is_over(text: &[u8]) -> bool
+    ensures { result ≡ is_over text.now }
 {
-    match fields {
-        [word] => *word == b"endprogram".as_slice(),
-        _ => false,
+    match past_blanks(text) {
+        [] => true,
+        [b, ..] => *b == b';',
     }
+}
+
+/// Whether the line ends a program. Its front alone is looked at, since most lines of a configuration are those of programs.
+#[tactic(auto, using(crate::proofs::Ends::alone_short, crate::proofs::Ends::alone_cut))]
+pub fn ends_program(line: &[u8]) -> bool
+    ensures { result ≡ ends_program line.now }
+{
+    let text = past_blanks(line);
+    if text.len() < 10 {
+        return false;
+    }
+    let (word, rest) = text.split_at(10);
+    word == b"endprogram".as_slice() && is_over(rest)
 }

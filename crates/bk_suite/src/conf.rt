@@ -83,7 +83,7 @@ fn builds_and_lists_the_sample(rt: HostRuntime) -> Result<(), Fail> {
 // What follows the front of a configuration, and the line and the kind of its first fault.
 #[test]
 fn tells_the_first_fault(rt: HostRuntime) -> Result<(), Fail> {
-    let rows: [(&[u8], u32, BuildKind); 34] = [
+    let rows: [(&[u8], u32, BuildKind); 35] = [
         (b"colour 1", 6, BuildKind::Form),
         (b"turns 1 1", 6, BuildKind::Form),
         (b"turns 01", 6, BuildKind::Form),
@@ -93,8 +93,8 @@ fn tells_the_first_fault(rt: HostRuntime) -> Result<(), Fail> {
         (b"fault 0 7 8", 6, BuildKind::Form),
         (b"fault 0 7 200000", 6, BuildKind::Range),
         (b"fault 0 8 0", 6, BuildKind::Range),
-        (b"fault 32 7 0", 6, BuildKind::Range),
-        (b"fault 31 7 177777", 6, BuildKind::Unknown),
+        (b"fault 64 7 0", 6, BuildKind::Range),
+        (b"fault 63 7 177777", 6, BuildKind::Unknown),
         (b"fault 0 7 177777", 0, BuildKind::Image(ImageField::Entry)),
         (b"window 0 user d 7 /01", 6, BuildKind::Form),
         (b"window 0 user d 7 /16", 6, BuildKind::Range),
@@ -108,6 +108,7 @@ fn tells_the_first_fault(rt: HostRuntime) -> Result<(), Fail> {
         (b"hold 0 /1 r", 0, BuildKind::Image(ImageField::Exists)),
         (b"hold 0 / r", 0, BuildKind::Image(ImageField::Row)),
         (b"level 256 0", 6, BuildKind::Range),
+        (b"level 1 00000000000000000", 6, BuildKind::Form),
         (b"level 0 0", 0, BuildKind::Image(ImageField::Level)),
         (b"object / mailbox 0", 6, BuildKind::Doubled),
         (b"object /1 segment 0 1 p", 6, BuildKind::Unknown),
@@ -146,7 +147,7 @@ fn tells_the_first_fault(rt: HostRuntime) -> Result<(), Fail> {
 #[test]
 fn takes_what_is_at_a_limit(rt: HostRuntime) -> Result<(), Fail> {
     for more in [
-        b"level 255 177777\nfault 0 7 177776 ; odd ones aren't".as_slice(),
+        b"level 255 7777777777777777\nfault 0 7 177776 ; odd ones aren't".as_slice(),
         b"window 0 user d 7 /15/15/15/15/15/15/15",
         b"program sixteen_letters_ 177776\nendprogram\n",
         b"row / 0 rw\nhold 0 / rw\n\t \n",

@@ -16,5 +16,5 @@ loop-subject-preserved c =
 
 pub returns : goal.returns
 returns c =
-    let all : c.loop-subject.subject ≡ 32 = omega arith in
+    let all : c.loop-subject.subject ≡ 64 = omega arith in
     c.loop-subject.invariant ∙ ap (granted c.args.rows.now.entries c.args.path) all
