@@ -13,14 +13,16 @@ from checking import content, top
 from images import APPEND, DIRECTORY, EXECUTE, LINE, MAILBOX, READ, SEGMENT, SUPERVISOR, USER, WRITE
 
 # Numbers at the bounds of the formats' fields, and one beside each.
-BOUNDS = [0, 1, 2, 7, 8, 15, 16, 17, 31, 32, 33, 63, 64, 65, 127, 128, 129, 255, 256, 3903, 3904, 3905, 4095, 4096, 4097, 32767,
-          32768, 65533, 65534, 65535, 65536, 4194303, 4194304, 4194305, 99999999, 999999999, 1000000000, 2**32 - 1, 2**32, 2**64]
+BOUNDS = [0, 1, 2, 7, 8, 15, 16, 17, 31, 32, 33, 47, 48, 63, 64, 65, 127, 128, 129, 255, 256, 3903, 3904, 3905, 4095, 4096, 4097, 32767,
+          32768, 65533, 65534, 65535, 65536, 4194303, 4194304, 4194305, 99999999, 999999999, 1000000000, 2**32 - 1, 2**32, 2**48 - 1, 2**48,
+          2**64]
 
 CONFIGURATION = b"""; every kind of line
 turns 32
 level 0 0
 level 1 0
 level 2 177777
+level 2 7000000000177777
 schedule 0 1 0
 subject 0 0 user user 0 20100 20100 0 0 0 0 0 010400
 subject 2 1 super user 0 0 20100 1 2 3 4 5 177777
@@ -71,8 +73,9 @@ WRONG_WORDS = [
 ]
 
 
-def rich_image(turns, code, subjects_code=()):
-    """An image with what the sample has not: an upgraded directory, mailboxes, both modes, fault entries, and this program."""
+def rich_image(turns, code, subjects_code=(), categories=3, further=0):
+    """An image with what the sample has not: an upgraded directory, mailboxes, both modes, fault entries, and this program; of version 2
+    where these categories of its highest level, or so many further subjects, ask for it."""
     everyone = [(0, READ | EXECUTE), (1, READ | EXECUTE), (2, READ | EXECUTE)]
     def user(level, mode, line, registers):
         windows = [(16, "/0"), (0, "/0"), (25, "/1"), (9, "/2"), (26, "/5/0")]
@@ -96,7 +99,7 @@ def rich_image(turns, code, subjects_code=()):
         (2, "/", READ), (2, "/0", EXECUTE), (2, "/6", WRITE)]]
     first, second, third = [*subjects_code, {}, {}, {}][:3]
     subjects = [user(0, USER, "/4", first), user(1, USER, "/5/1", second), user(2, SUPERVISOR, "/6", third)]
-    return images.image(turns, [(0, 0), (1, 0), (2, 3)], [0, 1, 0, 2], subjects, things, holds)
+    return images.image(turns, [(0, 0), (1, 0), (2, categories)], [0, 1, 0, 2], subjects + further * [images.subject()], things, holds)
 
 
 def parts(name):
@@ -105,7 +108,8 @@ def parts(name):
 
 
 ECHO = [0o010501, 0o012702, 0, 0o104020, 0o005700, 0o001402, 0o104024, 0o000770, 0o010203, 0o010501, 0o012702, 0, 0o104017, 0o000762]
-IMAGES = [*parts("image"), rich_image(32, ECHO)]
+WIDE = {"categories": 1 << 47 | 1 << 16 | 3, "further": 61}
+IMAGES = [*parts("image"), rich_image(32, ECHO), rich_image(32, ECHO, **WIDE)]
 SCRIPTS = [*parts("script"), b"0 0 00ff\n0 1 61\n3 1 " + b"62" * 128 + b"\nEND 8\n", b"END 0\n"]
 REPORTS = parts("report")
 CONFIGURATIONS = [*parts("configuration"), CONFIGURATION]
@@ -184,7 +188,7 @@ def call_words(rng):
     path = rng.choice(["/", "/0", "/1", "/2", "/3", "/4", "/5", "/5/0", "/5/1", "/6", "/7", "/5/2", "/1/0", "/15/15/15/15/15/15/15"])
     first, second = images.words_of(path) if rng.random() < 0.9 else (rng.randrange(65536), rng.randrange(65536))
     third = rng.choice([*range(33), 0o100, 0o177, 0o400, 0o401, 0o1000, 0o1400, 65535])
-    fourth, fifth = rng.choice([0, 1, 2, 3, 31, 32, 65535]), rng.choice([0, 1, 5, 16, 3904, 3905])
+    fourth, fifth = rng.choice([0, 1, 2, 3, 31, 32, 63, 64, 65535]), rng.choice([0, 1, 5, 16, 3904, 3905])
     arguments = [0o012701, first, 0o012702, second, 0o012703, third, 0o012704, fourth, 0o012705, fifth]
     return arguments[:rng.choice([4, 6, 8, 10])] + [0o104000 + rng.randrange(0o31)]
 
@@ -218,9 +222,9 @@ def registers(rng):
 
 
 def hostile_program(rng):
-    """An accepted image whose three subjects run a program that nobody meant, and a script for it."""
-    turns = rng.choice([1, 2, 16, 64, 256])
-    return rich_image(turns, code(rng), [registers(rng) for _ in range(3)]) + script(rng, 3)
+    """An accepted image whose first three subjects run a program that nobody meant, and a script for it."""
+    turns, more = rng.choice([1, 2, 16, 64, 256]), rng.choice([{}, {}, WIDE])
+    return rich_image(turns, code(rng), [registers(rng) for _ in range(3)], **more) + script(rng, 3)
 
 
 def other(rng):

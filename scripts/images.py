@@ -1,6 +1,8 @@
 """Images by their parts, spelt by docs/FORMATS.md and by nothing of the program."""
 import struct
 
+from reading import VERSIONS
+
 READ, EXECUTE, WRITE, APPEND = 1, 2, 4, 8
 SUPERVISOR, USER = 1, 3
 DIRECTORY, SEGMENT, MAILBOX, LINE = range(4)
@@ -32,26 +34,31 @@ def subject(greatest=0, current=0, mode=USER, previous=USER, registers=(), user=
 
 
 def thing(path, kind, blocks=0, level=0, quota=0, row=(), words=()):
-    """The path and the bytes of an object: the row as pairs of subject and modes, a line's number in the place of blocks."""
-    halves = bytearray(16)
+    """The path and the bytes of an object, in pieces: before its row, the row with room for 64 subjects, and behind it. The row is given
+    as pairs of subject and modes, a line's number in the place of blocks."""
+    halves = bytearray(32)
     for number, modes in row:
         halves[number // 2] |= modes << 4 * (number % 2)
     kept = list(words)
     while kept and kept[-1] == 0:
         kept.pop()
-    head = path_bytes(path) + bytes([kind, blocks, level, 0]) + struct.pack("<H", quota) + bytes(halves)
-    return path_of(path), head + struct.pack(f"<{1 + len(kept)}H", len(kept), *kept)
+    head = path_bytes(path) + bytes([kind, blocks, level, 0]) + struct.pack("<H", quota)
+    return path_of(path), (head, bytes(halves), struct.pack(f"<{1 + len(kept)}H", len(kept), *kept))
 
 
-def image(turns, levels, schedule, subjects, things, holds):
-    """The bytes of an image: levels as pairs of class and categories, holds as subject, path and modes, in any order."""
+def image(turns, levels, schedule, subjects, things, holds, version=None):
+    """The bytes of an image: levels as pairs of class and categories, holds as subject, path and modes, in any order. The version is
+    that which the image has to have, or the given one."""
+    small = len(subjects) <= 32 and all(categories < 1 << 16 for _, categories in levels)
+    version = version or (1 if small else 2)
+    words, row = VERSIONS[version]
     ordered = sorted(things, key=lambda each: each[0])
     held = sorted(holds, key=lambda each: (each[0], path_of(each[1])))
-    lines = sum(record[4] == LINE for _, record in ordered)
+    lines = sum(head[4] == LINE for _, (head, _, _) in ordered)
     counts = bytes([len(levels), len(subjects), lines, len(schedule)]) + struct.pack("<HH", len(ordered), len(held))
     return b"".join([
-        b"BLPK", struct.pack("<HH", 1, turns), counts,
-        *[struct.pack("<BBH", number, 0, categories) for number, categories in levels],
-        bytes(schedule), *subjects, *[record for _, record in ordered],
+        b"BLPK", struct.pack("<HH", version, turns), counts,
+        *[bytes([number, 0]) + categories.to_bytes(2 * words, "little") for number, categories in levels],
+        bytes(schedule), *subjects, *[head + halves[:row] + tail for _, (head, halves, tail) in ordered],
         *[bytes([number, modes]) + path_bytes(path) for number, path, modes in held],
     ])

@@ -1,11 +1,12 @@
-"""The largest inputs that a run may have: the most turns, the longest image, and the longest script."""
+"""The largest inputs that a run may have: the most turns, the longest image of each version, and the longest script."""
 import struct
+
+from reading import VERSIONS
 
 MOST_IMAGE = 524288
 MOST_SCRIPT = 1048576
 MOST_OBJECTS = 3904
 MOST_HOLDS = 65535
-SUBJECTS = 32
 
 
 def turns(sample):
@@ -31,29 +32,32 @@ def walk(path):
             yield from walk(path + (entry,))
 
 
-def record(path, directory, words):
-    """The bytes of an object: a directory, or a segment of one block with so many words."""
+def record(path, directory, row, words):
+    """The bytes of an object: a directory, or a segment of one block with so many words, with a row of so many bytes."""
     quota = MOST_OBJECTS if path == () else 0
     head = packed(path) + bytes([0 if directory else 1, 0 if directory else 1, 0, 0]) + struct.pack("<H", quota)
-    return head + b"\x11" * 16 + struct.pack("<H", words) + b"\x01\x00" * words
+    return head + b"\x11" * row + struct.pack("<H", words) + b"\x01\x00" * words
 
 
-def image():
-    """Root, and below it directories and segments of one block up to 3,904 objects; as many holds by r as there is room for."""
+def image(version):
+    """Root, and below it directories and segments of one block up to 3,904 objects; as many subjects as the version has, and as many
+    holds by r as there is room for."""
+    categories, row = VERSIONS[version]
+    count = 2 * row
     objects = [pair for pair, _ in zip(walk(()), range(MOST_OBJECTS))]
-    subjects = b"".join(bytes([0, 0, 3, 3]) + bytes(12 + 6 + 16) + b"\x00" for _ in range(SUBJECTS))
-    front = 16 + 4 + 2 + len(subjects)
+    subjects = b"".join(bytes([0, 0, 3, 3]) + bytes(12 + 6 + 16) + b"\x00" for _ in range(count))
+    front = 16 + 2 + 2 * categories + 2 + len(subjects)
     words = [0 if directory else 4 for _, directory in objects]
-    room = MOST_IMAGE - front - sum(28 + 2 * n for n in words)
+    room = MOST_IMAGE - front - sum(12 + row + 2 * n for n in words)
     extra = room % 6 // 2
     words[[i for i, o in enumerate(objects) if not o[1]][0]] += extra
     holds = (room - 2 * extra) // 6
-    assert holds <= min(MOST_HOLDS, SUBJECTS * len(objects)), (holds, len(objects))
-    body = b"".join(record(path, directory, n) for (path, directory), n in zip(objects, words))
-    pairs = [(s, path) for s in range(SUBJECTS) for path, _ in objects][:holds]
+    assert holds <= min(MOST_HOLDS, count * len(objects)), (holds, len(objects))
+    body = b"".join(record(path, directory, row, n) for (path, directory), n in zip(objects, words))
+    pairs = [(s, path) for s in range(count) for path, _ in objects][:holds]
     tail = b"".join(bytes([s, 1]) + packed(path) for s, path in pairs)
-    header = b"BLPK" + struct.pack("<HH", 1, 1) + bytes([1, SUBJECTS, 0, 2]) + struct.pack("<HH", len(objects), holds)
-    whole = header + bytes(4) + bytes(2) + subjects + body + tail
+    header = b"BLPK" + struct.pack("<HH", version, 1) + bytes([1, count, 0, 2]) + struct.pack("<HH", len(objects), holds)
+    whole = header + bytes(2 + 2 * categories) + bytes(2) + subjects + body + tail
     assert len(whole) == MOST_IMAGE
     return whole + b"END 0\n"
 

@@ -10,6 +10,8 @@ KINDS = ["directory", "segment", "mailbox", "line"]
 READ, EXECUTE, WRITE, APPEND = 1, 2, 4, 8
 LETTERS = {READ: "r", EXECUTE: "e", WRITE: "w", APPEND: "a"}
 KIND_MODES = [READ | WRITE, READ | EXECUTE | WRITE | APPEND, WRITE | APPEND, WRITE | APPEND]
+# Of each version of images: the words of a level's categories, and the bytes of a row, each with two subjects.
+VERSIONS = {1: (1, 16), 2: (3, 32)}
 
 
 class Refused(Exception):
@@ -98,11 +100,11 @@ def read_subject(parts, levels):
 
 
 def read_object(parts, image, before):
-    part, begin = parts.take(28)
+    part, begin = parts.take(12 + image.row_bytes)
     path = path_in(part[:4])
     kind, blocks, level, zero = part[4:8]
-    quota, row, count = int.from_bytes(part[8:10], "little"), part[10:26], int.from_bytes(part[26:28], "little")
-    granted = [row[s // 2] >> 4 * (s % 2) & 15 for s in range(32)]
+    quota, row, count = int.from_bytes(part[8:10], "little"), part[10:-2], int.from_bytes(part[-2:], "little")
+    granted = [row[s // 2] >> 4 * (s % 2) & 15 for s in range(2 * len(row))]
     check([("path", path is None or (path != [] if before is None else path <= before))], begin)
     above = image.by_path.get(text_of(path[:-1])) if path else None
     check([("parent", path and (above is None or above.kind != DIRECTORY)),
@@ -151,17 +153,20 @@ def read_image(data):
     parts = Parts(data)
     image = Value(levels=[], subjects=[], objects=[], holds=[], by_path={})
     check([("magic", parts.take(4)[0] != b"BLPK")], 0)
-    parts.number(2, "version", [1])
+    image.version = parts.number(2, "version", VERSIONS)
+    words, image.row_bytes = VERSIONS[image.version]
     image.turns = parts.number(2, "turns", range(1, 4097))
-    counts = [range(1, 65), range(1, 33), range(17), range(1, 65)]
+    counts = [range(1, 65), range(1, 2 * image.row_bytes + 1), range(17), range(1, 65)]
     level_count, image.subject_count, image.lines, places = (parts.number(1, "counts", allowed) for allowed in counts)
     object_count = parts.number(2, "counts", range(1, 3905))
     hold_count = parts.number(2, "counts", range(65536))
     for _ in range(level_count):
-        part, begin = parts.take(4)
+        part, begin = parts.take(2 + 2 * words)
         level = (part[0], int.from_bytes(part[2:], "little"))
         check([("level", part[1] or level in image.levels)], begin)
         image.levels.append(level)
+    small = image.subject_count <= 32 and all(mask < 1 << 16 for _, mask in image.levels)
+    check([("version", image.version == 2 and small)], 4)
     image.schedule = [parts.number(1, "schedule", range(image.subject_count)) for _ in range(places)]
     image.subjects = [read_subject(parts, image.levels) for _ in range(image.subject_count)]
     before = None
@@ -179,6 +184,7 @@ def read_image(data):
         hold = read_hold(parts, image, before)
         before = (hold.subject, hold.path)
         image.holds.append(hold)
+    image.length = parts.at
     image.line_levels = {each.blocks: each.level for each in image.objects if each.kind == LINE}
     return image
 
