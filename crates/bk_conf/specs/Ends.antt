@@ -1,5 +1,5 @@
 -- When a line ends a program, seen from its front.
-use Rattle.std.specs.Prelude.{ℕ, ◌==◌, Bool, true, false, ◌&&◌, [], ◌∷◌, codes}
+use Rattle.std.specs.Prelude.{◌==◌, Bool, true, false, ◌&&◌, [], ◌∷◌, codes}
 use Rattle.bk_expr.specs.Text.{past_blanks}
 use Rattle.bk_conf.specs.Lines.{Text}
 

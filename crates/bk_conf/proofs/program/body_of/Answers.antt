@@ -1,4 +1,4 @@
-use Rattle.std.proofs.Common.{◌≡◌, ◌≤◌, ◌∷◌, length, ap, sym, ◌∙◌, refl, arith}
+use Rattle.std.proofs.Common.{◌≤◌, ◌∷◌, length, ap, sym, ◌∙◌, refl, arith}
 use Rattle.bk_conf.specs.Views.{lines_left}
 use Rattle.bk_conf.proofs.Bodies.{passed_end, passed_none, passed_shorter}
 use Rattle.bk_conf.proofs.program.body_of.Goals as goal
