@@ -11,7 +11,7 @@ ghost use Rattle.bk_asm.specs.Pieces as pieces;
 ghost use Rattle.bk_asm.specs.Places.{as_value};
 ghost use Rattle.bk_asm.specs.Seen.{given_by, seen, plain_piece, plain_placed};
 
-use crate::piece::{Piece, pieces_of};
+use crate::piece::{Piece, put_pieces_of};
 use crate::place::{Placed, as_value, divides_by_zero, is_undefined, number_in};
 use crate::size::size_of;
 use crate::table::{Scope, Table};
@@ -193,13 +193,14 @@ fn put_filling(out: &mut Vec<u8>, size: u32, body: &Body) -> Result<(), NoMemory
     }
 }
 
-// The bytes of a statement behind others, or its fault.
+// The bytes of a statement behind others, or its fault. The list is for its pieces.
 #[tactic(auto, unfolding(crate::specs::Codes::coded_at))]
-fn put_statement(
+fn put_statement<'a>(
     alloc: Global,
     out: &mut Vec<u8>,
+    list: &mut Vec<Piece<'a>>,
     table: &Table,
-    placed: &Placed<'_>,
+    placed: &Placed<'a>,
 ) -> Result<(), AsmStop>
     ensures ok { OnOk result (codes.coded_behind (seen table.now) out.old.items (plain_placed placed.now) ≡ Ok out.new.items) }
     ensures bad { IfErr result (λ stop. Refuses stop (codes.coded_at (seen table.now) (plain_placed placed.now))) }
@@ -209,7 +210,7 @@ fn put_statement(
         range: placed.range,
     };
     let body = &placed.statement.body;
-    let list = pieces_of(alloc, body)?;
+    put_pieces_of(list, body)?;
     let failing = put_pieces(
         alloc,
         out,
@@ -229,8 +230,9 @@ pub(crate) fn code(alloc: Global, table: &Table, placed: &[Placed<'_>]) -> Resul
     ensures { Gives (λ out. out.items) result (codes.coded (seen table.now) [] (map plain_placed placed.now)) }
 {
     let mut out = Vec::new(alloc);
+    let mut list = Vec::new(alloc);
     for one in placed {
-        put_statement(alloc, &mut out, table, one)?;
+        put_statement(alloc, &mut out, &mut list, table, one)?;
     }
     Ok(out)
 }

@@ -9,7 +9,6 @@ ghost use Rattle.bk_asm.specs.Pieces as pieces;
 
 use bk_asm_text::{Body, Expr, Operand};
 use bk_base::NoMemory;
-use std::alloc::Global;
 
 /// A part of a statement: one word, but for a byte and for a string.
 #[derive(Clone, Copy, Drop)]
@@ -84,134 +83,96 @@ fn operand_word(operand: &Operand) -> Option<Piece<'_>>
     }
 }
 
-// One piece, and up to two behind it.
-fn some_pieces<'a>(
-    alloc: Global,
-    first: Piece<'a>,
-    second: Option<Piece<'a>>,
-    third: Option<Piece<'a>>,
-) -> Result<Vec<Piece<'a>>, NoMemory>
-    ensures { IfOk result (λ list. map plain_piece list.items ≡ plain_piece first.entry ∷ plain_pieces second.entry ++ plain_pieces third.entry) }
+// A piece behind others.
+fn push<'a>(list: &mut Vec<Piece<'a>>, piece: Piece<'a>) -> Result<(), NoMemory>
+    ensures { OnOk result (map plain_piece list.new.items ≡ map plain_piece list.old.items ++ plain_piece piece.entry ∷ []) }
 {
-    let mut list = Vec::new(alloc);
-    let Ok(()) = list.push(first) else {
+    let Ok(()) = list.push(piece) else {
         return Err(NoMemory);
     };
-    push_some(&mut list, second)?;
-    push_some(&mut list, third)?;
-    Ok(list)
+    Ok(())
 }
 
-// A piece that may be there behind others.
-fn push_some<'a>(list: &mut Vec<Piece<'a>>, piece: Option<Piece<'a>>) -> Result<(), NoMemory>
-    ensures { OnOk result (map plain_piece list.new.items ≡ map plain_piece list.old.items ++ plain_pieces piece.entry) }
+// The word of an operand, where it has one, behind others.
+fn push_operand<'a>(list: &mut Vec<Piece<'a>>, operand: &'a Operand) -> Result<(), NoMemory>
+    ensures { OnOk result (map plain_piece list.new.items ≡ map plain_piece list.old.items ++ pieces.operand_word (plain_operand operand.now)) }
 {
-    if let Some(piece) = piece {
-        let Ok(()) = list.push(piece) else {
-            return Err(NoMemory);
-        };
+    match operand_word(operand) {
+        Some(piece) => push(list, piece),
+        None => Ok(()),
+    }
+}
+
+// An instruction's word and that of its operand behind others.
+fn push_one<'a>(list: &mut Vec<Piece<'a>>, word: u16, operand: &'a Operand) -> Result<(), NoMemory>
+    ensures { OnOk result (map plain_piece list.new.items ≡ map plain_piece list.old.items
+        ++ pieces.Fixed word ∷ pieces.operand_word (plain_operand operand.now)) }
+{
+    push(list, Piece::Fixed(word))?;
+    push_operand(list, operand)
+}
+
+// Each expression as a word.
+fn values<'a>(list: &mut Vec<Piece<'a>>, exprs: &'a [Expr]) -> Result<(), NoMemory>
+    ensures { OnOk result (map plain_piece list.new.items ≡ map pieces.Value (map plain exprs.now)) }
+{
+    list.clear();
+    for expr in exprs {
+        push(list, Piece::Value(expr))?;
     }
     Ok(())
 }
 
-// Each expression as a word.
-fn values<'a>(alloc: Global, exprs: &'a [Expr]) -> Result<Vec<Piece<'a>>, NoMemory>
-    ensures { IfOk result (λ list. map plain_piece list.items ≡ map pieces.Value (map plain exprs.now)) }
-{
-    let mut list = Vec::new(alloc);
-    for expr in exprs {
-        let Ok(()) = list.push(Piece::Value(expr)) else {
-            return Err(NoMemory);
-        };
-    }
-    Ok(list)
-}
-
 // Each expression as a byte.
-fn bytes<'a>(alloc: Global, exprs: &'a [Expr]) -> Result<Vec<Piece<'a>>, NoMemory>
-    ensures { IfOk result (λ list. map plain_piece list.items ≡ map pieces.Byte (map plain exprs.now)) }
+fn bytes<'a>(list: &mut Vec<Piece<'a>>, exprs: &'a [Expr]) -> Result<(), NoMemory>
+    ensures { OnOk result (map plain_piece list.new.items ≡ map pieces.Byte (map plain exprs.now)) }
 {
-    let mut list = Vec::new(alloc);
+    list.clear();
     for expr in exprs {
-        let Ok(()) = list.push(Piece::Byte(expr)) else {
-            return Err(NoMemory);
-        };
+        push(list, Piece::Byte(expr))?;
     }
-    Ok(list)
+    Ok(())
 }
 
-/// The pieces of a statement, one behind another.
-pub(crate) fn pieces_of<'a>(alloc: Global, body: &'a Body) -> Result<Vec<Piece<'a>>, NoMemory>
-    ensures { IfOk result (λ list. map plain_piece list.items ≡ pieces.pieces_of (plain_body body.now)) }
+/// The pieces of a statement, one behind another, in place of those of a list.
+pub(crate) fn put_pieces_of<'a>(list: &mut Vec<Piece<'a>>, body: &'a Body) -> Result<(), NoMemory>
+    ensures { OnOk result (map plain_piece list.new.items ≡ pieces.pieces_of (plain_body body.now)) }
 {
-    match body {
-        Body::Nothing | Body::Assign { .. } | Body::Blkw { .. } | Body::Even => Ok(Vec::new(alloc)),
-        Body::Double { base, src, dst } => some_pieces(
-            alloc,
-            Piece::Fixed(with_fields(*base, field(src), field(dst))),
-            operand_word(src),
-            operand_word(dst),
-        ),
-        Body::Eis { base, src, reg } => some_pieces(
-            alloc,
-            Piece::Fixed(with_fields(*base, u16::from(*reg), field(src))),
-            operand_word(src),
-            None,
-        ),
-        Body::Xor { reg, dst } => some_pieces(
-            alloc,
-            Piece::Fixed(0o074000 + u16::from(*reg) * 0o100 + field(dst)),
-            operand_word(dst),
-            None,
-        ),
-        Body::Jsr { reg, dst } => some_pieces(
-            alloc,
-            Piece::Fixed(0o004000 + u16::from(*reg) * 0o100 + field(dst)),
-            operand_word(dst),
-            None,
-        ),
-        Body::Single { base, dst } => some_pieces(
-            alloc,
-            Piece::Fixed(with_fields(*base, 0, field(dst))),
-            operand_word(dst),
-            None,
-        ),
-        Body::Rts { reg } => some_pieces(
-            alloc,
-            Piece::Fixed(0o000200 + u16::from(*reg)),
-            None,
-            None,
-        ),
-        Body::Sob { reg, to } => some_pieces(
-            alloc,
-            Piece::Back(0o077000 + u16::from(*reg) * 0o100, to),
-            None,
-            None,
-        ),
-        Body::Branch { base, to } => some_pieces(alloc, Piece::Branch(*base, to), None, None),
-        Body::Mark { count } => some_pieces(
-            alloc,
-            Piece::Number(0o006400, 0o100, count),
-            None,
-            None,
-        ),
-        Body::Spl { level } => some_pieces(alloc, Piece::Number(0o000230, 0o10, level), None, None),
-        Body::Number { base, n: None } => some_pieces(alloc, Piece::Fixed(*base), None, None),
-        Body::Number { base, n: Some(n) } => {
-            some_pieces(alloc, Piece::Number(*base, 0o400, n), None, None)
+    list.clear();
+    let only = match body {
+        Body::Nothing | Body::Assign { .. } | Body::Blkw { .. } | Body::Even => return Ok(()),
+        Body::Double { base, src, dst } => {
+            push_one(list, with_fields(*base, field(src), field(dst)), src)?;
+            return push_operand(list, dst);
         }
-        Body::Alone { base } => some_pieces(alloc, Piece::Fixed(*base), None, None),
-        Body::WordList(exprs) => values(alloc, exprs.as_slice()),
-        Body::ByteList(exprs) => bytes(alloc, exprs.as_slice()),
-        Body::Ascii { text, zero } => some_pieces(
-            alloc,
-            Piece::Text(text.as_slice()),
-            if *zero {
-                Some(Piece::Text(b"\0"))
-            } else {
-                None
-            },
-            None,
-        ),
-    }
+        Body::Eis { base, src, reg } => {
+            return push_one(list, with_fields(*base, u16::from(*reg), field(src)), src);
+        }
+        Body::Xor { reg, dst } => {
+            return push_one(list, 0o074000 + u16::from(*reg) * 0o100 + field(dst), dst);
+        }
+        Body::Jsr { reg, dst } => {
+            return push_one(list, 0o004000 + u16::from(*reg) * 0o100 + field(dst), dst);
+        }
+        Body::Single { base, dst } => {
+            return push_one(list, with_fields(*base, 0, field(dst)), dst);
+        }
+        Body::WordList(exprs) => return values(list, exprs.as_slice()),
+        Body::ByteList(exprs) => return bytes(list, exprs.as_slice()),
+        Body::Ascii { text, zero } => {
+            push(list, Piece::Text(text.as_slice()))?;
+            if !*zero {
+                return Ok(());
+            }
+            Piece::Text(b"\0")
+        }
+        Body::Rts { reg } => Piece::Fixed(0o000200 + u16::from(*reg)),
+        Body::Sob { reg, to } => Piece::Back(0o077000 + u16::from(*reg) * 0o100, to),
+        Body::Branch { base, to } => Piece::Branch(*base, to),
+        Body::Mark { count } => Piece::Number(0o006400, 0o100, count),
+        Body::Spl { level } => Piece::Number(0o000230, 0o10, level),
+        Body::Number { base, n: None } | Body::Alone { base } => Piece::Fixed(*base),
+        Body::Number { base, n: Some(n) } => Piece::Number(*base, 0o400, n),
+    };
+    push(list, only)
 }

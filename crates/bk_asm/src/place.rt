@@ -175,7 +175,10 @@ fn assign(table: &mut Table, alloc: Global, worked: Worked, body: &Body) -> Resu
     ensures { OnOk result (seen table.new ≡ places.assigned (seen table.old) worked (pieces.role_of (plain_body body.now))) }
 {
     match body {
-        Body::Assign { name, .. } => table.set_name(alloc, name.as_slice(), number_in(worked)),
+        Body::Assign { name, .. } => {
+            let _had = table.set_name(alloc, name.as_slice(), number_in(worked))?;
+            Ok(())
+        }
         _ => Ok(()),
     }
 }

@@ -46,59 +46,53 @@ impl Table {
         self.locals.get(&(range, n)).copied()
     }
 
-    /// Gives a name a value.
+    /// Gives a name a value, and answers the one that it had.
     pub(crate) fn set_name(
         &mut self,
         alloc: Global,
         name: &[u8],
         value: u16,
-    ) -> Result<(), NoMemory>
-        ensures { OnOk result (seen self.new ≡ names.with_name name.now value (seen self.old)) }
+    ) -> Result<Option<u16>, NoMemory>
+        ensures same { OnOk result (seen self.new ≡ names.with_name name.now value (seen self.old)) }
+        ensures had { IfOk result (λ had. had ≡ find names.name_cmp name.now (seen self.old).names) }
     {
         let mut key = Vec::new(alloc);
         let Ok(()) = key.extend_from_slice(name) else {
             return Err(NoMemory);
         };
-        let Ok(_) = self.names.insert(key, value) else {
+        let Ok(had) = self.names.insert(key, value) else {
             return Err(NoMemory);
         };
-        Ok(())
+        Ok(had)
     }
 
-    // Gives a local label a value in its range.
-    fn set_local(&mut self, range: usize, n: u16, value: u16) -> Result<(), NoMemory>
-        ensures { OnOk result (seen self.new ≡ names.with_label range value (seen self.old) (Local n)) }
+    // Gives a local label a value in its range, and answers the one that it had.
+    fn set_local(&mut self, range: usize, n: u16, value: u16) -> Result<Option<u16>, NoMemory>
+        ensures same { OnOk result (seen self.new ≡ names.with_label range value (seen self.old) (Local n)) }
+        ensures had { IfOk result (λ had. had ≡ find names.local_cmp (range, n) (seen self.old).locals) }
     {
-        let Ok(_) = self.locals.insert((range, n), value) else {
+        let Ok(had) = self.locals.insert((range, n), value) else {
             return Err(NoMemory);
         };
-        Ok(())
+        Ok(had)
     }
 
-    // Whether a label is defined.
-    fn has(&self, range: usize, label: &Label) -> bool
-        ensures { result ≡ names.has_label range (seen self.now) label.now }
-    {
-        match label {
-            Label::Name(name) => self.name(name.as_slice()).is_some(),
-            Label::Local(n) => self.local(range, *n).is_some(),
-        }
-    }
-
-    // Gives a label a value.
+    // Gives a label a value, and answers whether it was defined.
     fn set(
         &mut self,
         alloc: Global,
         range: usize,
         label: &Label,
         value: u16,
-    ) -> Result<(), NoMemory>
-        ensures { OnOk result (seen self.new ≡ names.with_label range value (seen self.old) label.now) }
+    ) -> Result<bool, NoMemory>
+        ensures same { OnOk result (seen self.new ≡ names.with_label range value (seen self.old) label.now) }
+        ensures had { IfOk result (λ had. had ≡ names.has_label range (seen self.old) label.now) }
     {
-        match label {
-            Label::Name(name) => self.set_name(alloc, name.as_slice(), value),
-            Label::Local(n) => self.set_local(range, *n, value),
-        }
+        let had = match label {
+            Label::Name(name) => self.set_name(alloc, name.as_slice(), value)?,
+            Label::Local(n) => self.set_local(range, *n, value)?,
+        };
+        Ok(had.is_some())
     }
 
     /// Gives the labels of a statement its address, and answers whether one of them was defined already.
@@ -114,8 +108,7 @@ impl Table {
     {
         let mut again = false;
         for label in labels {
-            again |= self.has(range, label);
-            self.set(alloc, range, label, value)?;
+            again |= self.set(alloc, range, label, value)?;
         }
         Ok(again)
     }

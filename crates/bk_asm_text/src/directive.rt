@@ -39,6 +39,7 @@ fn directive_named(word: &[u8]) -> Option<Directive>
 }
 
 /// The directive of a run, if it is one's word. It takes memory while it looks.
+#[inline(never)]
 #[tactic(auto, unfolding(crate::specs::Directives::directive_of))]
 pub(crate) fn directive_of(alloc: Global, run: &[u8]) -> Result<Option<Directive>, NoMemory>
     ensures { IfOk result (λ directive. directive ≡ directives.directive_of run.now) }
@@ -152,6 +153,7 @@ fn block(alloc: Global, text: &[u8]) -> Result<Option<(Body, &[u8])>, NoMemory>
 }
 
 /// What follows the word of a directive.
+#[inline(never)]
 #[tactic(auto, unfolding(crate::specs::Directives::argument_at))]
 pub(crate) fn read_argument(
     alloc: Global,

@@ -37,6 +37,7 @@ fn first_register(text: &[u8]) -> Option<(u8, &[u8])>
 }
 
 // `src,dst`.
+#[inline(never)]
 #[tactic(auto, unfolding(crate::specs::Forms::fields_at))]
 fn double(alloc: Global, base: u16, text: &[u8]) -> Result<Option<(Body, &[u8])>, NoMemory>
     ensures { IfOk result (λ read. option_map (λ x. (plain_body x.0, x.1.now)) read ≡ fields_at form.Double base text.now) }
@@ -51,6 +52,7 @@ fn double(alloc: Global, base: u16, text: &[u8]) -> Result<Option<(Body, &[u8])>
 }
 
 // `src,R`.
+#[inline(never)]
 #[tactic(auto, unfolding(crate::specs::Forms::fields_at))]
 fn eis(alloc: Global, base: u16, text: &[u8]) -> Result<Option<(Body, &[u8])>, NoMemory>
     ensures { IfOk result (λ read. option_map (λ x. (plain_body x.0, x.1.now)) read ≡ fields_at form.Eis base text.now) }
@@ -65,6 +67,7 @@ fn eis(alloc: Global, base: u16, text: &[u8]) -> Result<Option<(Body, &[u8])>, N
 }
 
 // `R,dst` of XOR.
+#[inline(never)]
 #[tactic(auto, unfolding(crate::specs::Forms::fields_at))]
 fn xor(alloc: Global, base: u16, text: &[u8]) -> Result<Option<(Body, &[u8])>, NoMemory>
     ensures { IfOk result (λ read. option_map (λ x. (plain_body x.0, x.1.now)) read ≡ fields_at form.Xor base text.now) }
@@ -79,6 +82,7 @@ fn xor(alloc: Global, base: u16, text: &[u8]) -> Result<Option<(Body, &[u8])>, N
 }
 
 // `R,dst` of JSR.
+#[inline(never)]
 #[tactic(auto, unfolding(crate::specs::Forms::fields_at))]
 fn jsr(alloc: Global, base: u16, text: &[u8]) -> Result<Option<(Body, &[u8])>, NoMemory>
     ensures { IfOk result (λ read. option_map (λ x. (plain_body x.0, x.1.now)) read ≡ fields_at form.Jsr base text.now) }
@@ -93,6 +97,7 @@ fn jsr(alloc: Global, base: u16, text: &[u8]) -> Result<Option<(Body, &[u8])>, N
 }
 
 // `dst`.
+#[inline(never)]
 #[tactic(auto, unfolding(crate::specs::Forms::fields_at))]
 fn single(alloc: Global, base: u16, text: &[u8]) -> Result<Option<(Body, &[u8])>, NoMemory>
     ensures { IfOk result (λ read. option_map (λ x. (plain_body x.0, x.1.now)) read ≡ fields_at form.Single base text.now) }
@@ -104,6 +109,7 @@ fn single(alloc: Global, base: u16, text: &[u8]) -> Result<Option<(Body, &[u8])>
 }
 
 // `R` of RTS.
+#[inline(never)]
 #[tactic(auto, unfolding(crate::specs::Forms::fields_at))]
 fn rts(base: u16, text: &[u8]) -> Option<(Body, &[u8])>
     ensures { option_map (λ x. (plain_body x.0, x.1.now)) result ≡ fields_at form.Rts base text.now }
@@ -113,6 +119,7 @@ fn rts(base: u16, text: &[u8]) -> Option<(Body, &[u8])>
 }
 
 // `R,E` of SOB.
+#[inline(never)]
 #[tactic(auto, unfolding(crate::specs::Forms::fields_at))]
 fn sob(alloc: Global, base: u16, text: &[u8]) -> Result<Option<(Body, &[u8])>, NoMemory>
     ensures { IfOk result (λ read. option_map (λ x. (plain_body x.0, x.1.now)) read ≡ fields_at form.Sob base text.now) }
@@ -127,6 +134,7 @@ fn sob(alloc: Global, base: u16, text: &[u8]) -> Result<Option<(Body, &[u8])>, N
 }
 
 // `E` of a branch.
+#[inline(never)]
 #[tactic(auto, unfolding(crate::specs::Forms::fields_at))]
 fn branch(alloc: Global, base: u16, text: &[u8]) -> Result<Option<(Body, &[u8])>, NoMemory>
     ensures { IfOk result (λ read. option_map (λ x. (plain_body x.0, x.1.now)) read ≡ fields_at form.Branch base text.now) }
@@ -138,6 +146,7 @@ fn branch(alloc: Global, base: u16, text: &[u8]) -> Result<Option<(Body, &[u8])>
 }
 
 // `E` of MARK.
+#[inline(never)]
 #[tactic(auto, unfolding(crate::specs::Forms::fields_at))]
 fn mark(alloc: Global, base: u16, text: &[u8]) -> Result<Option<(Body, &[u8])>, NoMemory>
     ensures { IfOk result (λ read. option_map (λ x. (plain_body x.0, x.1.now)) read ≡ fields_at form.Mark base text.now) }
@@ -149,6 +158,7 @@ fn mark(alloc: Global, base: u16, text: &[u8]) -> Result<Option<(Body, &[u8])>, 
 }
 
 // `E` of SPL.
+#[inline(never)]
 #[tactic(auto, unfolding(crate::specs::Forms::fields_at))]
 fn spl(alloc: Global, base: u16, text: &[u8]) -> Result<Option<(Body, &[u8])>, NoMemory>
     ensures { IfOk result (λ read. option_map (λ x. (plain_body x.0, x.1.now)) read ≡ fields_at form.Spl base text.now) }
@@ -160,6 +170,7 @@ fn spl(alloc: Global, base: u16, text: &[u8]) -> Result<Option<(Body, &[u8])>, N
 }
 
 // `E` of EMT or TRAP, or nothing.
+#[inline(never)]
 #[tactic(auto, unfolding(crate::specs::Forms::fields_at))]
 fn number(alloc: Global, base: u16, text: &[u8]) -> Result<Option<(Body, &[u8])>, NoMemory>
     ensures { IfOk result (λ read. option_map (λ x. (plain_body x.0, x.1.now)) read ≡ fields_at form.Number base text.now) }
@@ -174,6 +185,7 @@ fn number(alloc: Global, base: u16, text: &[u8]) -> Result<Option<(Body, &[u8])>
 }
 
 /// The fields of an instruction, from behind its name on.
+#[inline(never)]
 #[tactic(auto, unfolding(crate::specs::Forms::fields_at))]
 pub(crate) fn read_fields(
     alloc: Global,

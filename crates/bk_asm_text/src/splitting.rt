@@ -1,7 +1,8 @@
 // A text, line by line.
 
-ghost use Rattle.std.specs.Prelude.{◌≡◌, ◌+◌, ◌<◌, ◌==◌, ◌∷◌, [], map, ℕ, List, length, Ok, Err, IfOk, IfErr, IfSome, IfNone};
-ghost use Rattle.std.specs.List.{position};
+ghost use Rattle.std.specs.Prelude.{◌≡◌, ◌+◌, ◌<◌, ◌≤◌, ◌==◌, ◌∷◌, ◌++◌, [], map, ℕ, List, length, Ok, Err, IfOk, IfErr, IfSome, IfNone, OnOk};
+ghost use Rattle.std.specs.List.{list_all, position, prefix_len};
+ghost use Rattle.bk_expr.specs.Text.{is_of_text};
 ghost use Rattle.bk_base.specs.Faults.{Gives, Refuses};
 ghost use Rattle.bk_asm_text.specs.Before.{before_fault, plain_front};
 ghost use Rattle.bk_asm_text.specs.Fault.{fault_at};
@@ -12,10 +13,11 @@ ghost use Rattle.bk_asm_text.specs.declared.fault.AsmFault.{AsmFault};
 ghost use Rattle.bk_asm_text.specs.declared.fault.AsmKind.TheVariants as kind;
 
 use crate::fault::{AsmFault, AsmKind, AsmStop};
-use crate::line::read_statement;
+use crate::line::{are_of_text, read_statement};
 use crate::statement::{Statement, Statements};
 use bk_base::NoMemory;
-use std::alloc::Global;
+use bk_expr::is_of_text;
+use std::alloc::{AllocFailed, Global};
 
 // The place of the first LF.
 fn end_of_line(text: &[u8]) -> Option<usize>
@@ -24,9 +26,35 @@ fn end_of_line(text: &[u8]) -> Option<usize>
     text.iter().position(|b| *b == b'\n')
 }
 
+// How many bytes at the front may stand in a line.
+fn text_len(text: &[u8]) -> usize
+    ensures value { result ≡ prefix_len is_of_text text.now }
+    ensures within { result ≤ length text.now }
+{
+    text.iter().take_while(|c| is_of_text(**c)).count()
+}
+
+// The text after an LF at its front.
+fn past_line_feed(text: &[u8]) -> Option<&[u8]>
+    ensures { IfSome result (λ after. text.now ≡ 10 ∷ after.now) }
+{
+    match text {
+        [b'\n', after @ ..] => Some(after),
+        _ => None,
+    }
+}
+
+// A line without its LF, whether all its bytes may stand in the text, and the text after it.
+#[derive(Clone, Copy)]
+struct Line<'a> {
+    line: &'a [u8],
+    clean: bool,
+    after: &'a [u8],
+}
+
 // The first line without its LF, and the text after it.
 #[tactic(auto, using(crate::proofs::Lines::first_line, crate::proofs::Lines::only_line, crate::proofs::Lines::no_line))]
-fn next_line(text: &[u8]) -> Option<(&[u8], &[u8])>
+fn cut_line(text: &[u8]) -> Option<(&[u8], &[u8])>
     ensures found { IfSome result (λ r. lines_of text.now ≡ r.0.now ∷ lines_of r.1.now) }
     ensures shorter { IfSome result (λ r. length r.1.now < length text.now) }
     ensures none { IfNone result (lines_of text.now ≡ []) }
@@ -38,6 +66,57 @@ fn next_line(text: &[u8]) -> Option<(&[u8], &[u8])>
         None => (text, &text[text.len()..]),
         Some(place) => (text.split_at(place).0, text.split_at(place + 1).1),
     })
+}
+
+// The first line, by its end.
+#[inline(never)]
+fn line_by_end(text: &[u8]) -> Option<Line<'_>>
+    ensures found { IfSome result (λ r. lines_of text.now ≡ r.line.now ∷ lines_of r.after.now) }
+    ensures clean { IfSome result (λ r. r.clean ≡ list_all is_of_text r.line.now) }
+    ensures shorter { IfSome result (λ r. length r.after.now < length text.now) }
+    ensures none { IfNone result (lines_of text.now ≡ []) }
+{
+    let (line, after) = cut_line(text)?;
+    Some(Line {
+        line,
+        clean: are_of_text(line),
+        after,
+    })
+}
+
+// The first line. Where its bytes may stand in the text and an LF ends it, they are read but once.
+#[tactic(auto, using(crate::proofs::Lines::clean_line, crate::proofs::Lines::clean_bytes, crate::proofs::Lines::clean_shorter))]
+fn next_line(text: &[u8]) -> Option<Line<'_>>
+    ensures found { IfSome result (λ r. lines_of text.now ≡ r.line.now ∷ lines_of r.after.now) }
+    ensures clean { IfSome result (λ r. r.clean ≡ list_all is_of_text r.line.now) }
+    ensures shorter { IfSome result (λ r. length r.after.now < length text.now) }
+    ensures none { IfNone result (lines_of text.now ≡ []) }
+{
+    let (line, rest) = text.split_at(text_len(text));
+    match past_line_feed(rest) {
+        None => line_by_end(text),
+        Some(after) => Some(Line {
+            line,
+            clean: true,
+            after,
+        }),
+    }
+}
+
+// What a statement that finds no room ends in.
+#[inline(never)]
+fn no_room(_statement: AllocFailed<Statement>) -> NoMemory {
+    NoMemory
+}
+
+// A statement behind others.
+fn push(statements: &mut Vec<Statement>, statement: Statement) -> Result<(), NoMemory>
+    ensures { OnOk result (statements.new.items ≡ statements.old.items ++ statement ∷ []) }
+{
+    match statements.push(statement) {
+        Ok(()) => Ok(()),
+        Err(failed) => Err(no_room(failed)),
+    }
 }
 
 fn form(line: u32) -> AsmFault
@@ -76,15 +155,13 @@ pub fn split_front(alloc: Global, text: &[u8]) -> Result<Front, NoMemory>
     let mut statements = Vec::new(alloc);
     let mut at = 1u32;
     let mut rest = text;
-    'each: while let Some((line, after)) = next_line(rest) {
-        let Some(statement) = read_statement(alloc, at, line)? else {
+    'each: while let Some(one) = next_line(rest) {
+        let Some(statement) = read_statement(alloc, at, one.line, one.clean)? else {
             return Ok(gathered(statements, Some(form(at))));
         };
-        let Ok(()) = statements.push(statement) else {
-            return Err(NoMemory);
-        };
+        push(&mut statements, statement)?;
         at = at.saturating_add(1);
-        rest = after;
+        rest = one.after;
     }
     Ok(gathered(statements, None))
 }

@@ -5,7 +5,7 @@
 //! `specs/Value.antt` (`Values`, `worked`), with `specs/Example.antt`; for the loops `specs/Waiting.antt` and
 //! `specs/Working.antt` (what waits while an expression is read, and worked out) and `specs/Weight.antt` (how much of it is left to
 //! let go). `proofs/Shorter.antt` has lemmas for the crates above.
-//! Calls: `read_expression`, `value_of`, `Names`; `past_blanks`, `run`, `sign`, `register`, `mnemonic`, `is_name`, `name`,
+//! Calls: `read_expression`, `value_of`, `Names`; `is_of_text`, `past_blanks`, `run`, `sign`, `register`, `mnemonic`, `is_name`, `name`,
 //! `local_label`, `number`. (`law_grammar` and the examples are empty functions, for their contracts.)
 //! Proved: an expression is read exactly where the grammar has one at the front of the text, as its tree and with the text
 //! after it; what it comes to is by whole numbers modulo 65,536, undefined before divide; each run is what the definitions say.
@@ -26,7 +26,7 @@ pub use law::{
     law_grammar,
 };
 pub use reading::read_expression;
-pub use text::{past_blanks, run, sign};
+pub use text::{is_of_text, past_blanks, run, sign};
 pub use tree::{Expr, ExprOp};
 pub use word::{is_name, local_label, mnemonic, name, number, register};
 pub use worked::{Names, Worked, value_of};

@@ -12,6 +12,7 @@ use bk_base::NoMemory;
 use std::alloc::Global;
 
 // How a term begins.
+#[derive(Clone, Copy)]
 enum Opening {
     // `+`, and then a term.
     Plus,
@@ -227,12 +228,29 @@ fn resume<'a>(
     }
 }
 
-/// The expression at the front of a text, blanks before it, and the text after it. None exactly where no expression stands
-/// there. It takes memory for the expression, however deep that is, and for what waits while it is read.
-#[tactic(auto, using(crate::proofs::Waits::through_last, crate::proofs::Waits::through_all_none, crate::proofs::Shorter::expression_shorter))]
-pub fn read_expression(alloc: Global, text: &[u8]) -> Result<Option<(Expr, &[u8])>, NoMemory>
-    ensures value { IfOk result (λ read. option_map (λ front. (plain front.0, front.1.now)) read ≡ expression_at text.now) }
-    ensures shorter { IfOk result (λ read. IfSome read (λ front. length front.1.now < length text.now)) }
+// An expression that is a run alone.
+#[tactic(auto, using(crate::proofs::Steps::lone_run))]
+fn read_run(alloc: Global, text: &[u8]) -> Result<Option<(Expr, &[u8])>, NoMemory>
+    ensures { IfOk result (λ read. IfSome read (λ front. expression_at text.now ≡ Some (plain front.0, front.1.now))) }
+{
+    let from = past_blanks(text);
+    let Some((c, _)) = next(from) else {
+        return Ok(None);
+    };
+    let (word, rest) = run(from);
+    if !matches!(opened_by(c), Opening::Run) || operator_at(rest).is_some() {
+        return Ok(None);
+    }
+    match term_of_run(alloc, word)? {
+        Some(expr) => Ok(Some((expr, rest))),
+        None => Ok(None),
+    }
+}
+
+// An expression by its terms, one after another.
+#[tactic(auto, using(crate::proofs::Waits::through_last, crate::proofs::Waits::through_all_none))]
+fn read_terms(alloc: Global, text: &[u8]) -> Result<Option<(Expr, &[u8])>, NoMemory>
+    ensures { IfOk result (λ read. option_map (λ front. (plain front.0, front.1.now)) read ≡ expression_at text.now) }
 {
     let mut waiting = Vec::new(alloc);
     wait(&mut waiting, Waiting::More)?;
@@ -246,5 +264,18 @@ pub fn read_expression(alloc: Global, text: &[u8]) -> Result<Option<(Expr, &[u8]
                 Some(one) => resume(alloc, &mut waiting, one, expr, rest)?,
             },
         };
+    }
+}
+
+/// The expression at the front of a text, blanks before it, and the text after it. None exactly where no expression stands
+/// there. It takes memory for the expression, however deep that is, and for what waits while it is read.
+#[tactic(auto, using(crate::proofs::Shorter::expression_shorter))]
+pub fn read_expression(alloc: Global, text: &[u8]) -> Result<Option<(Expr, &[u8])>, NoMemory>
+    ensures value { IfOk result (λ read. option_map (λ front. (plain front.0, front.1.now)) read ≡ expression_at text.now) }
+    ensures shorter { IfOk result (λ read. IfSome read (λ front. length front.1.now < length text.now)) }
+{
+    match read_run(alloc, text)? {
+        Some(read) => Ok(Some(read)),
+        None => read_terms(alloc, text),
     }
 }

@@ -2,8 +2,8 @@ ghost use Rattle.std.specs.Prelude.{◌≡◌, ◌+◌, ◌<◌, ◌≤◌, leng
 ghost use Rattle.std.specs.List.{prefix_len};
 ghost use Rattle.bk_expr.specs.Text.{is_of_text, is_blank, is_of_run, past_blanks, run_at, sign_at};
 
-// Whether a byte may stand in a line of the text.
-pub(crate) fn is_of_text(c: u8) -> bool
+/// Whether a byte may stand in a line of the text: a blank, or one that is printed.
+pub fn is_of_text(c: u8) -> bool
     ensures { result ≡ is_of_text c }
 {
     b' ' <= c && c <= b'~' || c == b'\t'

@@ -18,7 +18,7 @@ returns-in-Err-clause-bad c =
     let failing : Failing (values_in (seen c.args.table.now) one.range) here list found.undefined found.divides found.beyond =
     record { undefined_is = fact.undefined; divides_is = fact.divides; beyond_is = fact.beyond } in
     refused_now (seen c.args.table.now) (plain_placed one) here list found.undefined found.divides found.beyond c.in-Err.fault
-    c.as_value.ensures (ap (map plain_piece) c.as_slice.ensures.value ∙ c.in_ok-list.ensures) failing (sym c.check.ensures ∙ c.in-Err.is)
+    c.as_value.ensures (ap (map plain_piece) c.as_slice.ensures.value ∙ c.in_ok-put_pieces_of.ensures) failing (sym c.check.ensures ∙ c.in-Err.is)
 
 pub returns-clause-ok : goal.returns-clause-ok
 returns-clause-ok c =
@@ -35,5 +35,5 @@ returns-clause-ok c =
     let written : c.put_filling.new.out.items ≡ c.put_pieces.new.out.items ++ zeros = c.in_ok-put_filling.ensures in
     coded_now (seen c.args.table.now) c.args.out.now.items c.put_filling.new.out.items (plain_placed one) here list
     found.undefined found.divides found.beyond
-    c.as_value.ensures (ap (map plain_piece) c.as_slice.ensures.value ∙ c.in_ok-list.ensures) failing (sym c.check.ensures ∙ c.in_default.is)
+    c.as_value.ensures (ap (map plain_piece) c.as_slice.ensures.value ∙ c.in_ok-put_pieces_of.ensures) failing (sym c.check.ensures ∙ c.in_default.is)
     (written ∙ ap (λ (items : List ℕ). items ++ zeros) bytes)

@@ -4,7 +4,7 @@ use Rattle.bk_asm_text.proofs.Loops.{on}
 use Rattle.bk_asm_text.proofs.line.read_labels.Given as goal
 
 abbrev pub invariant-each : goal.invariant-each
-invariant-each l = on label_at l.labels.items l.rest ≡ on label_at [] l.line
+invariant-each l = on label_at l.labels.items l.text ≡ on label_at [] l.line
 
 abbrev pub decreases-each : goal.decreases-each
-decreases-each l = length l.rest
+decreases-each l = length l.text

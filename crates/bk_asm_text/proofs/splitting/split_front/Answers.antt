@@ -14,11 +14,11 @@ each-init c = ap (λ (items : List Statement). before_at 1 (map plain_statement 
 pub each-preserved : goal.each-preserved
 each-preserved c =
     let before = map plain_statement c.each.statements.items in
-    let said : statement_of c.each.at c.in-Some.line.now ≡ Some (plain_statement c.in-Some-2.statement) = search rules in
+    let said : statement_of c.each.at c.in-Some.one.line.now ≡ Some (plain_statement c.in-Some-2.statement) = search rules in
     let at : c.saturating_add-at.result ≡ next_line c.each.at = grind (arith, c.saturating_add-at.ensures) in
-    let items : map plain_statement c.push.new.self.items ≡ map plain_statement c.each.statements.items ++ plain_statement c.in-Some-2.statement ∷ [] =
-    ap (map plain_statement) c.in-Ok.ensures.items ∙ map-append plain_statement c.each.statements.items (c.in-Some-2.statement ∷ []) in
-    (λ i. before_at (at i) (items i) (lines_of c.in-Some.after.now))
-    ∙ sym (before_some c.each.at before c.in-Some.line.now (lines_of c.in-Some.after.now) (plain_statement c.in-Some-2.statement) said)
+    let items : map plain_statement c.push.new.statements.items ≡ map plain_statement c.each.statements.items ++ plain_statement c.in-Some-2.statement ∷ [] =
+    ap (map plain_statement) c.in_ok-push.ensures ∙ map-append plain_statement c.each.statements.items (c.in-Some-2.statement ∷ []) in
+    (λ i. before_at (at i) (items i) (lines_of c.in-Some.one.after.now))
+    ∙ sym (before_some c.each.at before c.in-Some.one.line.now (lines_of c.in-Some.one.after.now) (plain_statement c.in-Some-2.statement) said)
     ∙ sym (ap (before_at c.each.at before) c.in-Some.ensures.found)
     ∙ c.each.invariant

@@ -1,7 +1,7 @@
 use Rattle.std.proofs.Common.{◌≡◌, ◌+◌, vec_len}
 use Rattle.bk_expr.specs.Expression.{expression_at}
 use Rattle.bk_expr.specs.Waiting.{through_all, front_of, left_at}
-use Rattle.bk_expr.proofs.reading.read_expression.Given as goal
+use Rattle.bk_expr.proofs.reading.read_terms.Given as goal
 
 abbrev pub invariant-steps : goal.invariant-steps
 invariant-steps l = through_all l.waiting.items (front_of l.step) ≡ expression_at l.fn.text
