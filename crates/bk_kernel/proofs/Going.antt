@@ -1,20 +1,19 @@
 -- Instructions of one process, as turns of its subject.
 use Rattle.std.proofs.Common.{◌≡◌, ℕ, zero, suc, ◌+◌, ◌-◌, ◌^◌, ◌≤◌, ◌<◌, max, min, Bool, true, false, List, [], ◌++◌, length, Option, Some, None, refl, sym, ap, subst, ◌∙◌, arith}
-use Rattle.std.specs.Prelude.{slice_index, slice_set, if◌then◌else◌}
+use Rattle.std.specs.Prelude.{slice_index, if◌then◌else◌}
 use Rattle.bk_path.specs.Paths.{Path}
-use Rattle.bk_space.specs.AddrSpace.{AddrSpace, Write, applied}
+use Rattle.bk_space.specs.AddrSpace.{AddrSpace}
 use Rattle.bk_space.specs.Counts.{counted_on}
 use Rattle.bk_exec.specs.Exec.{Done, exec}
 use Rattle.bk_exec.specs.declared.event.Event.{Event}
 use Rattle.bk_exec.specs.declared.event.Event.TheVariants.{Ran, Call, Fault}
 use Rattle.bk_process.specs.declared.process.Process.{Process}
 use Rattle.bk_process.specs.declared.status.Status9.TheVariants.{Running}
-use Rattle.bk_report.specs.declared.item.ReportItem.{ReportItem}
 use Rattle.bk_state.specs.State.{State, process_of}
 use Rattle.bk_system.specs.declared.at.At.{At}
 use Rattle.bk_system.specs.Space.{space_of}
 use Rattle.bk_system.specs.Step.{Step, joined, nothing}
-use Rattle.bk_system.specs.Turn.{ended, executed, fault_number, faulted, is_reflected, turn_of, with_process, written}
+use Rattle.bk_system.specs.Turn.{ended, executed, fault_number, faulted, is_reflected, turn_of, with_process}
 use Rattle.bk_kernel.specs.Instructions.{Going, after_one, gone, next_of, told_next}
 use Rattle.bk_kernel.specs.Stretch.{turn_after, turns_from}
 use Rattle.bk_kernel.specs.Tables.{instruction_told, is_running, last_after, last_by, runs}

@@ -1,7 +1,7 @@
 -- The machine comes to where the instructions of its process lead.
-use Rattle.std.proofs.Common.{◌≡◌, ◌⊎◌, ℕ, zero, suc, ◌+◌, ◌<◌, List, Option, Some, None, refl, sym, ap, subst, ◌∙◌, arith}
+use Rattle.std.proofs.Common.{◌≡◌, ◌⊎◌, ℕ, zero, suc, ◌<◌, List, Option, Some, refl, sym, ap, subst, ◌∙◌, arith}
 use mathlib.Core.Logic.{inl, inr}
-use Rattle.std.specs.Prelude.{slice_get, slice_set}
+use Rattle.std.specs.Prelude.{slice_set}
 use Rattle.bk_path.specs.Paths.{Path}
 use Rattle.bk_space.specs.AddrSpace.{applied}
 use Rattle.bk_space.specs.Counts.{counted_on}
@@ -10,15 +10,15 @@ use Rattle.bk_exec.specs.declared.event.Event.{Event}
 use Rattle.bk_exec.specs.declared.event.Event.TheVariants.{Ran}
 use Rattle.bk_machine.specs.Machine.{MachineState}
 use Rattle.bk_process.specs.declared.process.Process.{Process}
-use Rattle.bk_state.specs.State.{State, process_of}
+use Rattle.bk_state.specs.State.{State}
 use Rattle.bk_state.specs.declared.clearance.Clearance.{Clearance}
 use Rattle.bk_store.specs.Stored.{Stored}
 use Rattle.bk_store.specs.Stands.{StandsFor}
 use Rattle.bk_system.specs.Space.{space_of}
 use Rattle.bk_system.specs.Turn.{with_process, written}
-use Rattle.bk_kernel.specs.Instructions.{Going, HasGone, HasRun, WentOn, after_one, going_by, going_from, gone, next_of, told_next}
-use Rattle.bk_kernel.specs.Tables.{TablesState, state_from}
-use Rattle.bk_kernel.proofs.Kept.{applied-only, gone-state, state-stands}
+use Rattle.bk_kernel.specs.Instructions.{Going, HasGone, HasRun, WentOn, going_from, gone, next_of, told_next}
+use Rattle.bk_kernel.specs.Tables.{state_from}
+use Rattle.bk_kernel.proofs.Kept.{applied-only, gone-state}
 
 -- no instruction has run yet
 pub gone-none : (store : Stored) (machine : MachineState) (v : State) (s : ℕ) (windows : List (Option Path)) → StandsFor store machine.core.words v → HasGone store machine machine v s windows 0

@@ -1,19 +1,15 @@
 -- The kernel's state after a change of store and core.
-use Rattle.std.proofs.Common.{◌≡◌, ℕ, zero, suc, ◌+◌, ◌≤◌, ◌<◌, Bool, true, false, List, [], ◌∷◌, length, get_or, Option, Some, None, refl}
+use Rattle.std.proofs.Common.{◌≡◌, ℕ, zero, suc, ◌+◌, ◌<◌, Bool, true, false, List, [], ◌∷◌, length, get_or, Option, Some, None, refl}
 use Rattle.std.proofs.Common.{sym, ap, subst, ◌∙◌, arith}
 use Rattle.std.specs.Prelude.{if◌then◌else◌, slice_get, slice_set}
 use Rattle.std.proofs.lemmas.List.{get_or_read}
 use Rattle.std.proofs.lemmas.Option.{same_Some}
 use Rattle.bk_path.specs.Paths.{Path}
 use Rattle.bk_space.specs.AddrSpace.{Write, applied}
-use Rattle.bk_space.specs.Counts.{counted_on}
 use Rattle.bk_space.specs.Status.{word_of}
-use Rattle.bk_space.specs.declared.registers.Regs.{Regs}
 use Rattle.bk_space.specs.declared.reference.Mode.TheVariants.{Supervisor}
 use Rattle.bk_space.specs.declared.reference.Space.TheVariants.{D}
 use Rattle.bk_space.specs.declared.reference.Width.TheVariants.{Word}
-use Rattle.bk_exec.specs.Exec.{Done, exec}
-use Rattle.bk_exec.proofs.MostLemmas.{exec_most}
 use Rattle.bk_process.specs.declared.process.Process.{Process}
 use Rattle.bk_process.specs.declared.status.Status9.TheVariants.{Stopped}
 use Rattle.bk_report.specs.declared.item.ReportItem.TheVariants as items
@@ -28,7 +24,6 @@ use Rattle.bk_calls.specs.declared.caller.Caller.{Caller}
 use Rattle.bk_calls.proofs.Seen.{clearance-seen, subjects-seen}
 use Rattle.bk_system.specs.Turn.{entered, faulted, less, with_push, with_process, with_pushes, written}
 use Rattle.bk_system.specs.declared.at.At.{At}
-use Rattle.bk_system.specs.Space.{space_of}
 use Rattle.bk_kernel.specs.Tables.{interrupted, served, state_from}
 use Rattle.bk_pages.proofs.Alike.{written-only}
 

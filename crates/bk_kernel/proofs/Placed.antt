@@ -1,6 +1,6 @@
 -- A process that stands in its place while its turn goes on: what the turn comes to doesn't depend on what stands there.
-use Rattle.std.proofs.Common.{◌≡◌, ℕ, zero, suc, ◌+◌, ◌<◌, Bool, true, false, not, ◌&&◌, ◌==◌, List, [], ◌∷◌, length, Option, Some, None}
-use Rattle.std.proofs.Common.{refl, sym, ap, subst, ◌∙◌, arith}
+use Rattle.std.proofs.Common.{◌≡◌, ℕ, zero, suc, ◌<◌, Bool, true, false, not, ◌&&◌, ◌==◌, List, [], ◌∷◌, length, Option, Some, None}
+use Rattle.std.proofs.Common.{refl, sym, ap, ◌∙◌, arith}
 use Rattle.std.specs.Prelude.{IfSome, option_map, slice_get, slice_index, slice_set}
 use Rattle.std.proofs.lemmas.Option.{same_Some}
 use Rattle.bk_space.specs.AddrSpace.{AddrSpace, Write, applied, page_number, write_at}
@@ -8,7 +8,7 @@ use Rattle.bk_space.specs.Status.{word_of}
 use Rattle.bk_space.specs.declared.reference.Mode.TheVariants.{Supervisor}
 use Rattle.bk_space.specs.declared.reference.Space.TheVariants.{D}
 use Rattle.bk_space.specs.declared.reference.Width.TheVariants.{Word}
-use Rattle.bk_exec.specs.Exec.{Done, exec}
+use Rattle.bk_exec.specs.Exec.{exec}
 use Rattle.bk_exec.specs.declared.event.Event.{Event}
 use Rattle.bk_exec.specs.declared.event.Event.TheVariants.{Ran, Call, Fault}
 use Rattle.bk_path.specs.Paths.{Path}
@@ -16,14 +16,14 @@ use Rattle.bk_process.specs.declared.process.Process.{Process}
 use Rattle.bk_process.specs.declared.status.Status9.{Status9}
 use Rattle.bk_process.specs.declared.status.Status9.TheVariants.{Running, Paused, Stopped}
 use Rattle.bk_state.specs.State.{State, Object, find, process_of}
-use Rattle.bk_state.specs.Answers.{Called, called}
+use Rattle.bk_state.specs.Answers.{called}
 use Rattle.bk_state.specs.Contents.{with_contents}
 use Rattle.bk_state.specs.RowCalls.{changed_by}
 use Rattle.bk_state.proofs.AlikeCalls.{called-alike}
 use Rattle.bk_system.specs.declared.at.At.{At}
 use Rattle.bk_system.specs.Space.{space_of}
 use Rattle.bk_system.specs.Step.{Step, nothing}
-use Rattle.bk_system.specs.Turn.{completes, ended, entered, executed, fault_number, faulted, is_reflected, is_user, is_writable, less}
+use Rattle.bk_system.specs.Turn.{completes, ended, entered, executed, fault_number, faulted, is_reflected, is_user, less}
 use Rattle.bk_system.specs.Turn.{settled, stored_in, turn_by, turn_of, turn_of_process, with_process, with_pushes, written, written_by}
 use Rattle.bk_kernel.specs.Tables.{is_running, runs}
 use Rattle.bk_pages.proofs.Alike.{space-alike, written-only}

@@ -1,16 +1,16 @@
 -- What the tables keep stands for the state.
-use Rattle.std.proofs.Common.{◌≡◌, ◌<◌, ℕ, List, length, Option, Some, None, refl, sym, ap, ◌∙◌}
+use Rattle.std.proofs.Common.{◌≡◌, ℕ, List, Option, Some, None, refl, sym, ap, ◌∙◌}
 use Rattle.std.specs.Prelude.{option_map}
 use Rattle.std.specs.FinMap as finite
 use Rattle.bk_path.specs.Paths.{Path}
 use Rattle.bk_frames.specs.Extents.{Extent, words_at}
 use Rattle.bk_machine.specs.Machine.{MachineState}
 use Rattle.bk_state.specs.State.{Object, State, Words}
-use Rattle.bk_store.specs.Stored.{Entry, Stored, contents_in, extent_at, extent_in, object_of, waiting_in}
+use Rattle.bk_store.specs.Stored.{Entry, Stored, contents_in, extent_at, object_of, waiting_in}
 use Rattle.bk_store.specs.Joined.{AreExtentsApart}
 use Rattle.bk_store.specs.Stands.{StandsFor as StoreStandsFor}
 use Rattle.bk_store.proofs.Stands.{get-objects_of}
-use Rattle.bk_kernel.specs.StandsFor.{StandsFor, contents_at}
+use Rattle.bk_kernel.specs.StandsFor.{StandsFor}
 use Rattle.bk_kernel.specs.Tables.{HasLoaded}
 use Rattle.bk_kernel.proofs.Loading.{loaded-there}
 

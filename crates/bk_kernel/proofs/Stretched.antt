@@ -1,5 +1,5 @@
 -- What the instructions of a process and the end of the last of them come to, as turns of its subject.
-use Rattle.std.proofs.Common.{◌≡◌, ℕ, zero, suc, ◌+◌, ◌-◌, ◌≤◌, ◌<◌, Bool, true, false, List, [], ◌++◌, length, Option, Some, None, refl, sym, ap, subst, ◌∙◌, arith}
+use Rattle.std.proofs.Common.{◌≡◌, ℕ, suc, ◌+◌, ◌-◌, ◌≤◌, ◌<◌, false, ◌++◌, length, Option, Some, None, sym, ap, ◌∙◌, arith}
 use Rattle.std.specs.Prelude.{if◌then◌else◌}
 use Rattle.std.proofs.lemmas.Option.{slice_get_within}
 use Rattle.bk_space.specs.Counts.{counted_on}
@@ -11,12 +11,12 @@ use Rattle.bk_report.specs.declared.item.ReportItem.{ReportItem}
 use Rattle.bk_state.specs.State.{State, process_of}
 use Rattle.bk_system.specs.declared.at.At.{At}
 use Rattle.bk_system.specs.Step.{Step, joined, nothing}
-use Rattle.bk_system.specs.Turn.{ended, turn_of, with_process}
-use Rattle.bk_kernel.specs.Instructions.{Going, HasRun, after_one, gone, next_of, told_next}
+use Rattle.bk_system.specs.Turn.{ended, turn_of}
+use Rattle.bk_kernel.specs.Instructions.{Going, HasRun, gone, next_of}
 use Rattle.bk_kernel.specs.Items.{items_of}
-use Rattle.bk_kernel.specs.Stretch.{IsStretch, runs_from, turn_after, turns_from}
+use Rattle.bk_kernel.specs.Stretch.{IsStretch, turn_after, turns_from}
 use Rattle.bk_kernel.specs.Tables.{TablesState, is_running, last_after, runs}
-use Rattle.bk_kernel.proofs.Going.{AreGone, counted_none, counted_twice, ended-from, placed, told-idle, told-placed, turn-placed, turns-gone, turns-idle, within-gone}
+use Rattle.bk_kernel.proofs.Going.{AreGone, counted_none, counted_twice, ended-from, told-idle, told-placed, turn-placed, turns-gone, turns-idle, within-gone}
 use Rattle.bk_kernel.proofs.Placed.{ended-placed, process-placed}
 
 -- turns of a process that doesn't run

@@ -1,5 +1,5 @@
 -- Turns of one subject, one after another: only the last of them gives items.
-use Rattle.std.specs.Prelude.{◌≡◌, ◌≤◌, ℕ, zero, suc, ◌+◌, List, [], Option, if◌then◌else◌}
+use Rattle.std.specs.Prelude.{◌≡◌, ◌≤◌, ℕ, zero, suc, ◌+◌, [], Option, if◌then◌else◌}
 use Rattle.bk_space.specs.Counts.{counted_on}
 use Rattle.bk_report.specs.declared.item.ReportItem.{ReportItem}
 use Rattle.bk_state.specs.State.{State, process_of}

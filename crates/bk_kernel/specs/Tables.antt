@@ -1,9 +1,8 @@
 -- What the kernel keeps: the objects and the current access set by store and core, the rest in lists, and a machine in which one
 -- subject is loaded.
 use Rattle.std.specs.Prelude.{◌≡◌, ◌<◌, ℕ, Bool, true, false, List, length, Option, Some, None, slice_get, slice_set, if◌then◌else◌}
-use Rattle.bk_space.specs.AddrSpace.{applied}
 use Rattle.bk_space.specs.Counts.{counted_on}
-use Rattle.bk_exec.specs.Exec.{Done, exec}
+use Rattle.bk_exec.specs.Exec.{exec}
 use Rattle.bk_machine.specs.Machine.{MachineState}
 use Rattle.bk_machine.specs.declared.ran.Ran.{Ran}
 use Rattle.bk_pages.specs.StandsFor.{IsLoaded}
@@ -16,7 +15,7 @@ use Rattle.bk_state.specs.declared.clearance.Clearance.{Clearance}
 use Rattle.bk_store.specs.Stored.{Stored, objects_of}
 use Rattle.bk_load.specs.Kept.{IsKept}
 use Rattle.bk_system.specs.Space.{space_of}
-use Rattle.bk_system.specs.Turn.{entered, with_process, with_pushes, written}
+use Rattle.bk_system.specs.Turn.{entered, with_process, with_pushes}
 use Rattle.bk_kernel.specs.declared.tables.Tables.TheInside.{Inside}
 
 -- the state of the system, the machine, and the number of the subject that is loaded in it

@@ -3,7 +3,7 @@ use Rattle.std.specs.Prelude.{◌≡◌, ◌<◌, ◌≤◌, ℕ, List, All, len
 use Rattle.bk_object.specs.Rows.{most_subjects}
 use Rattle.bk_state.specs.State.{State}
 use Rattle.bk_state.specs.declared.clearance.Clearance.{Clearance}
-use Rattle.bk_store.specs.Stored.{Stored, objects_of}
+use Rattle.bk_store.specs.Stored.{objects_of}
 use Rattle.bk_load.specs.declared.loading.Loaded.{Loaded}
 
 -- the state of the store, of these words of core, and of what is beside them

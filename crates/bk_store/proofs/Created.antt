@@ -1,6 +1,6 @@
 -- What is so once an object is created.
 use Rattle.std.proofs.Common.{List, ◌≡◌, ◌≢◌, ℕ, ◌+◌, ◌<◌, ◌≤◌, Bool, true, false, cond, ◌&&◌, [], length, length-set, Option, Some, None, refl}
-use Rattle.std.proofs.Common.{sym, ap, subst, ◌∙◌, arith, is_some, is_eq, Result, Err, ◌↔◌}
+use Rattle.std.proofs.Common.{sym, ap, subst, ◌∙◌, arith, is_some, Result, Err, ◌↔◌}
 use Rattle.std.specs.Prelude.{option_map, unwrap_or, slice_set, slice_index_or}
 use Rattle.std.specs.Ordering.{nat_cmp, eq_by_cmp}
 use Rattle.std.specs.Cmp.{nat_cmp_total}

@@ -1,21 +1,15 @@
 -- That the test meets the conditions of the calls: root stays a directory.
-use Rattle.std.proofs.Common.{◌≡◌, ℕ, ◌<◌, Bool, true, false, cond, List, [], ◌∷◌, Option, Some, None, Result, Ok, sym, ap, ◌∙◌, subst, is_eq}
-use Rattle.std.specs.Prelude.{IfOk}
-use Rattle.std.specs.Cmp.{tied_itself}
-use Rattle.std.specs.FinMap.{get, get-insert, get-from_entries}
+use Rattle.std.proofs.Common.{◌≡◌, ℕ, ◌<◌, Bool, true, false, cond, List, [], ◌∷◌, Some, None, sym, ap, ◌∙◌, subst}
+use Rattle.std.specs.FinMap.{get, get-from_entries}
 use Rattle.bk_level.specs.Levels.{Level}
 use Rattle.bk_object.specs.declared.Facts.{Facts}
-use Rattle.bk_object.specs.declared.modes.Modes.{Modes}
 use Rattle.bk_object.specs.Kinds.{is_directory}
 use Rattle.bk_path.specs.Paths.{Path, path_cmp}
 use Rattle.std.specs.Ordering.{eq_by_cmp}
 use Rattle.std.proofs.lemmas.Option.{same_Some}
 use Rattle.bk_path.specs.Orders.{path_total}
 use Rattle.bk_quota.specs.Charges.{passes}
-use Rattle.bk_store.specs.Stored.{Stored, Entry, NoQueue, HasDirectory, IsFreeLine, IsThere, begun, changed_at, changed_by, with_row, with_given}
-use Rattle.bk_store.specs.Stored.{with_rescinded, without_held}
-use Rattle.bk_object.specs.Rows.{given, rescinded}
-use Rattle.bk_store.proofs.Entries.{there as is_there}
+use Rattle.bk_store.specs.Stored.{Stored, Entry, NoQueue, HasDirectory, IsFreeLine, begun}
 use Rattle.bk_object.specs.declared.kind.Kind.{Kind}
 use Rattle.bk_object.specs.declared.kind.Kind.TheVariants.{Line}
 

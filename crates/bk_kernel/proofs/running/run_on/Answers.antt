@@ -1,4 +1,4 @@
-use Rattle.std.proofs.Common.{◌≡◌, ◌+◌, ◌∙◌, suc, refl, sym, ap, subst, arith, add-one}
+use Rattle.std.proofs.Common.{◌+◌, ◌∙◌, refl, sym, ap, subst, arith, add-one}
 use Rattle.bk_space.specs.Counts.{counted_on}
 use Rattle.bk_state.specs.State.{State}
 use Rattle.bk_kernel.specs.Instructions.{WentOn, going_from, gone}

@@ -1,9 +1,8 @@
-use Rattle.std.proofs.Common.{◌≡◌, ◌+◌, ◌-◌, ◌^◌, ◌≤◌, ◌∙◌, ℕ, max, min, ap, subst, arith}
+use Rattle.std.proofs.Common.{◌≡◌, ◌-◌, ◌^◌, ◌≤◌, ◌∙◌, ℕ, ap, subst, arith}
 use Rattle.bk_report.specs.declared.item.ReportItem.{ReportItem}
 use Rattle.std.specs.Prelude.{List}
 use Rattle.bk_system.specs.Report.{calls_in}
 use Rattle.bk_system.specs.Step.{Step}
-use Rattle.bk_kernel.specs.Items.{items_of}
 use Rattle.bk_kernel.specs.Progress.{KernelState, Progress, kernel_from, raised, with_turns}
 use Rattle.bk_kernel.specs.Stretch.{HasStretched, at_next, turns_from}
 use Rattle.bk_kernel.proofs.Going.{counted_is}

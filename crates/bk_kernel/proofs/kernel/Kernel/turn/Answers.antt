@@ -1,9 +1,8 @@
-use Rattle.std.proofs.Common.{◌≡◌, ◌∙◌, ℕ, zero, ap, sym, arith}
+use Rattle.std.proofs.Common.{◌≡◌, ◌∙◌, ap, arith}
 use Rattle.bk_space.specs.Counts.{counted_on}
 use Rattle.bk_state.specs.State.{State}
 use Rattle.bk_system.specs.Step.{Step}
 use Rattle.bk_system.specs.declared.at.At.{At}
-use Rattle.bk_kernel.specs.Items.{items_of}
 use Rattle.bk_kernel.specs.Progress.{Progress, after_turn, next_turn, with_turns}
 use Rattle.bk_kernel.specs.Stretch.{at_next, turns_from}
 use Rattle.bk_kernel.specs.Tables.{last_after}

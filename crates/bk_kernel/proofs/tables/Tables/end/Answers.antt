@@ -1,4 +1,4 @@
-use Rattle.std.proofs.Common.{◌≡◌, ◌∙◌, sym, ap}
+use Rattle.std.proofs.Common.{◌∙◌, sym, ap}
 use Rattle.bk_space.specs.Counts.{counted_on}
 use Rattle.bk_system.specs.Turn.{ended}
 use Rattle.bk_kernel.proofs.Going.{counted_none}

@@ -1,4 +1,4 @@
-use Rattle.std.proofs.Common.{◌∙◌, ap, subst}
+use Rattle.std.proofs.Common.{ap, subst}
 use Rattle.std.specs.Prelude.{◌<◌, length}
 use Rattle.bk_process.specs.declared.process.Process.{Process}
 use Rattle.bk_kernel.specs.Tables.{TablesState}

@@ -3,7 +3,6 @@ use Rattle.bk_machine.specs.Machine.{bus_of}
 use Rattle.bk_machine.specs.Paged.{paged, shown_in}
 use Rattle.bk_process.specs.declared.process.Process.{Process}
 use Rattle.bk_state.specs.State.{State, process_of}
-use Rattle.bk_store.specs.Stored.{Stored}
 use Rattle.bk_store.specs.Stands.{StandsFor as StoreStandsFor}
 use Rattle.bk_system.specs.Space.{space_of}
 use Rattle.bk_kernel.specs.StandsFor.{StandsFor}

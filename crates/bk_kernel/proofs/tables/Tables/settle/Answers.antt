@@ -1,4 +1,3 @@
-use Rattle.std.proofs.Common.{◌∙◌, sym, ap}
 use Rattle.bk_state.specs.Answers.{Called, called}
 use Rattle.bk_kernel.proofs.Lines.{all_answered}
 use Rattle.bk_kernel.proofs.Placed.{process-there}
