@@ -14,6 +14,7 @@ use bk_isa::{Form, Mnemonic};
 use std::alloc::Global;
 
 // `src,` and the text after it.
+#[inline(always)]
 #[tactic(auto, unfolding(crate::specs::Forms::source_at))]
 fn source(alloc: Global, text: &[u8]) -> Result<Option<(Operand, &[u8])>, NoMemory>
     ensures { IfOk result (λ read. option_map (λ x. (plain_operand x.0, x.1.now)) read ≡ source_at text.now) }

@@ -126,7 +126,7 @@ fn read_body<'a>(
     }
 }
 
-// Lets a body go, behind which the line doesn't end.
+// Lets a body go, behind which the line doesn't end. It is seldom, and apart: to let go takes room that each line would clear.
 #[inline(never)]
 fn let_go(_body: Body) {}
 

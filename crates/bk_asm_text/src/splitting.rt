@@ -103,7 +103,7 @@ fn next_line(text: &[u8]) -> Option<Line<'_>>
     }
 }
 
-// What a statement that finds no room ends in.
+// What a statement that finds no room ends in; apart, as it is seldom.
 #[inline(never)]
 fn no_room(_statement: AllocFailed<Statement>) -> NoMemory {
     NoMemory

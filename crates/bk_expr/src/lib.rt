@@ -5,8 +5,8 @@
 //! `specs/Value.antt` (`Values`, `worked`), with `specs/Example.antt`; for the loops `specs/Waiting.antt` and
 //! `specs/Working.antt` (what waits while an expression is read, and worked out) and `specs/Weight.antt` (how much of it is left to
 //! let go). `proofs/Shorter.antt` has lemmas for the crates above.
-//! Calls: `read_expression`, `value_of`, `Names`; `is_of_text`, `past_blanks`, `run`, `sign`, `register`, `mnemonic`, `is_name`, `name`,
-//! `local_label`, `number`. (`law_grammar` and the examples are empty functions, for their contracts.)
+//! Calls: `read_expression`, `value_of`, `Names`; `is_of_text`, `past_blanks`, `run`, `sign`, `register`, `mnemonic`, `is_name`,
+//! `name`, `local_label`, `number`. (`law_grammar` and the examples are empty functions, for their contracts.)
 //! Proved: an expression is read exactly where the grammar has one at the front of the text, as its tree and with the text
 //! after it; what it comes to is by whole numbers modulo 65,536, undefined before divide; each run is what the definitions say.
 //! Tested: in `bk_suite`, a million signs, brackets and terms.

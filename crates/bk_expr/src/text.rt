@@ -19,7 +19,10 @@ fn is_blank(c: u8) -> bool
 pub(crate) fn is_of_run(c: u8) -> bool
     ensures { result ≡ is_of_run c }
 {
-    c.is_ascii_alphanumeric() || c == b'.' || c == b'$'
+    if c.is_ascii_alphabetic() {
+        return true;
+    }
+    c.is_ascii_digit() || c == b'.' || c == b'$'
 }
 
 fn blanks_len(text: &[u8]) -> usize

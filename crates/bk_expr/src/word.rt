@@ -1,5 +1,5 @@
 ghost use Rattle.std.specs.Prelude.{◌≡◌, ◌<◌, ◌≤◌, IfOk, IfSome, bytes_eq, codes, length, option_map};
-ghost use Rattle.std.specs.Char.{is_ascii_digit};
+ghost use Rattle.std.specs.Char.{is_ascii_digit, to_ascii_uppercase};
 ghost use Rattle.std.specs.List.{list_all, prefix_len};
 ghost use Rattle.bk_expr.specs.Names.{is_octal, register_by, register_of, register_digit, register_at, mnemonic_of};
 ghost use Rattle.bk_expr.specs.Names.{begins_with_digit, is_spelt_as_name, is_reserved, is_name, name_of};
@@ -54,6 +54,7 @@ fn register_digit(run: &[u8]) -> Option<u8>
 
 /// The register at the front of a text, blanks before it, and the text after it: `R0` to `R7`, `SP` for 6, `PC` for 7, or `%`
 /// and a digit. None exactly where none stands there.
+#[inline(always)]
 pub fn register(text: &[u8]) -> Option<(u8, &[u8])>
     ensures value { option_map (λ front. (front.0, front.1.now)) result ≡ register_at text.now }
     ensures shorter { IfSome result (λ front. length front.1.now < length text.now) }
@@ -67,19 +68,24 @@ pub fn register(text: &[u8]) -> Option<(u8, &[u8])>
     Some((n, rest))
 }
 
-/// What a run stands for that is an instruction's word. None exactly where it is none.
+fn upper(c: &u8) -> u8
+    ensures { result ≡ to_ascii_uppercase c.now }
+{
+    c.to_ascii_uppercase()
+}
+
+/// What a run stands for that is an instruction's word: those have 2 to 5 letters. None exactly where it is none.
 #[tactic(auto, unfolding(crate::specs::Names::mnemonic_of))]
 pub fn mnemonic(run: &[u8]) -> Option<Mnemonic>
     ensures { result ≡ mnemonic_of run.now }
 {
-    let n = run.len();
-    if n > 6 {
-        return None;
+    match run {
+        [a, b] => by_name(&[upper(a), upper(b)]),
+        [a, b, c] => by_name(&[upper(a), upper(b), upper(c)]),
+        [a, b, c, d] => by_name(&[upper(a), upper(b), upper(c), upper(d)]),
+        [a, b, c, d, e] => by_name(&[upper(a), upper(b), upper(c), upper(d), upper(e)]),
+        _ => None,
     }
-    let mut word = [0; 6];
-    word[..n].copy_from_slice(run);
-    word[..n].make_ascii_uppercase();
-    by_name(&word[..n])
 }
 
 fn begins_with_digit(run: &[u8]) -> bool

@@ -1,6 +1,8 @@
-use Rattle.std.proofs.Common.{sym}
-use Rattle.bk_expr.proofs.Runs.{mnemonic_of_long}
+use Rattle.bk_expr.proofs.Runs.{mnemonic_of_less, mnemonic_of_more}
 use Rattle.bk_expr.proofs.word.mnemonic.Goals as goal
 
-pub returns-then-n-gt6 : goal.returns-then-n-gt6
-returns-then-n-gt6 c = sym (mnemonic_of_long c.args.run.now c.if-n-gt6.true)
+pub returns-in_default : goal.returns-in_default
+returns-in_default c = mnemonic_of_less c.args.run.now c.in_default.len_below
+
+pub returns-in_default-2 : goal.returns-in_default-2
+returns-in_default-2 c = mnemonic_of_more c.args.run.now c.in_default.len_at_least
