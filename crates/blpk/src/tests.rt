@@ -346,9 +346,10 @@ fn generates_and_runs_a_large_run(rt: HostRuntime) -> Result<(), Fail> {
 fn tells_the_first_fault_of_an_image(rt: HostRuntime) -> Result<(), Fail> {
     let alloc = rt.alloc();
     // A byte of the sample, what it is made to be, and the line.
-    let rows: [(usize, u8, &[u8]); 15] = [
+    let rows: [(usize, u8, &[u8]); 16] = [
         (0, 0, b"image refused at 0: magic\n"),
-        (4, 2, b"image refused at 4: version\n"),
+        (4, 3, b"image refused at 4: version\n"),
+        (4, 2, b"image refused at 24: level\n"),
         (7, 17, b"image refused at 6: turns\n"),
         (8, 0, b"image refused at 8: counts\n"),
         (17, 1, b"image refused at 16: level\n"),

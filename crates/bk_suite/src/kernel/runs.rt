@@ -86,8 +86,10 @@ pub(crate) fn booted(rt: &impl Ends, alloc: Global, system: &System) -> Result<R
     let (image, length) = read_image(alloc, &bytes)?;
     assert_eq!(rt; length, bytes.len());
     let subjects = image.subjects.as_slice().len();
-    let kernel = Kernel::boot(alloc, &image).ok().ok_or("memory")?;
-    Ok(Run { kernel, subjects })
+    match Kernel::boot(alloc, &image) {
+        Ok(kernel) => Ok(Run { kernel, subjects }),
+        Err(_) => Err("memory".into()),
+    }
 }
 
 // The records of what is typed before a slot.
@@ -118,10 +120,10 @@ fn run_of(
         .ok_or("memory")?;
     for records in typed {
         let records = records_of(alloc, run.kernel.summary().slots, records)?;
-        run = run
-            .slot(records.as_slice(), &mut out)
-            .ok()
-            .ok_or("no room")?;
+        run = match run.slot(records.as_slice(), &mut out) {
+            Ok(run) => run,
+            Err(_) => return Err("no room".into()),
+        };
     }
     Ok((run, out))
 }
