@@ -1,12 +1,12 @@
 -- The current access set, as a map from subject and slot to modes. A set of triples of subject, object and mode has a
 -- triple exactly where `holds` says so of the subject, the object's slot and the mode.
-use Rattle.std.specs.Prelude.{ℕ, Bool, not, ◌==◌, if◌then◌else◌}
+use Rattle.std.specs.Prelude.{◌≡◌, ◌≤◌, ◌<◌, ℕ, Bool, true, false, not, ◌||◌, ◌==◌, if◌then◌else◌}
 use Rattle.std.specs.Ordering.{nat_cmp, on, then_cmp}
 use Rattle.std.specs.declared.cmp.Ordering.{Ordering}
 use Rattle.std.specs.Option.{unwrap_or}
 use Rattle.std.specs.FinMap as map
 use Rattle.bk_object.specs.declared.modes.Modes.{Modes}
-use Rattle.bk_object.specs.Modes.{AccessMode, has, no_modes, union, without}
+use Rattle.bk_object.specs.Modes.{AccessMode, Write, Append, has, no_modes, union, without}
 
 -- who, and the slot of what
 abbrev pub Key : Type 0
@@ -28,6 +28,16 @@ modes_at held subject slot = unwrap_or (map.get held.modes (subject, slot)) no_m
 -- the subject holds the slot's object by the mode
 abbrev pub holds : Held → (subject slot : ℕ) → AccessMode → Bool
 holds held subject slot mode = has (modes_at held subject slot) mode
+
+-- the modes let something be put into an object: by write or by append
+abbrev pub puts : Modes → Bool
+puts modes = has modes Write || has modes Append
+
+-- the first slot from that number on whose object the subject holds so
+pub record IsNextPut (held : Held) (subject from slot : ℕ) : Type 0 where
+  pub within : from ≤ slot
+  pub held_so : puts (modes_at held subject slot) ≡ true
+  pub first : (k : ℕ) → from ≤ k → k < slot → puts (modes_at held subject k) ≡ false
 
 -- no subject holds anything
 abbrev pub nothing_held : (slots : ℕ) → Held

@@ -1,11 +1,12 @@
 // The current access set, by slots and subjects.
 
-ghost use Rattle.std.specs.Prelude.{◌≡◌, ◌<◌, ℕ, length, slice_index_or, slice_set, [], IfOk};
+ghost use Rattle.std.specs.Prelude.{◌≡◌, ◌<◌, ◌≤◌, ℕ, length, slice_index_or, slice_set, [], true, false, IfOk, IfSome, IsNone};
 ghost use Rattle.std.specs.List.{All};
 ghost use Rattle.bk_object.specs.Modes.{no_modes, union, without};
 ghost use Rattle.bk_object.specs.Rows.{empty_row, in_row, most_subjects};
-ghost use Rattle.bk_access.specs.Held.{added, cleared, modes_at, nothing_held, removed};
+ghost use Rattle.bk_access.specs.Held.{added, cleared, modes_at, nothing_held, puts, removed, IsNextPut};
 
+use bitflags::Flags;
 use bk_base::NoMemory;
 use bk_object::{Modes, Row, Slot};
 use std::alloc::Global;
@@ -60,6 +61,18 @@ impl Access {
         modes_in(&self.rows, subject, slot)
     }
 
+    /// The first slot from one number on and below another whose object the subject holds by write or append: None exactly
+    /// where there is none.
+    pub fn next_put(&self, subject: u8, from: u16, to: u16) -> Option<Slot>
+        requires subject { subject < most_subjects }
+        requires slots { to ≤ self.now.slots }
+        ensures some { IfSome result (λ slot. IsNextPut self.now subject from slot.n × (slot.n < to)) }
+        ensures none { IsNone result → (k : ℕ) → from ≤ k → k < to → puts (modes_at self.now subject k) ≡ false }
+    {
+        let at = next_put_in(&self.rows, subject, from, to);
+        if at < to { Some(Slot { n: at }) } else { None }
+    }
+
     /// The subject holds the slot's object by these modes too. All else that is held stays.
     pub fn add(&mut self, subject: u8, slot: Slot, modes: Modes)
         requires subject { subject < most_subjects }
@@ -96,6 +109,29 @@ fn modes_in(rows: &Vec<Row>, subject: u8, slot: Slot) -> Modes
     ensures four { result.0 < 16 }
 {
     rows[slot.n as usize].get(subject)
+}
+
+// The first place from one on at which the subject has write or append, if that is below the other.
+fn next_put_in(rows: &Vec<Row>, subject: u8, from: u16, to: u16) -> u16
+    requires subject { subject < most_subjects }
+    requires slots { to ≤ length rows.now.items }
+    ensures within { from ≤ result }
+    ensures found { result < to → puts (in_row (slice_index_or rows.now.items result []) subject) ≡ true }
+    ensures first { (k : ℕ) → from ≤ k → k < result → puts (in_row (slice_index_or rows.now.items k []) subject) ≡ false }
+{
+    let mut at = from;
+    while at < to && !puts(modes_in(rows, subject, Slot { n: at })) {
+        at += 1;
+    }
+    at
+}
+
+// The set has write or append.
+fn puts(modes: Modes) -> bool
+    requires { modes.0 < 16 }
+    ensures { result ≡ puts modes }
+{
+    modes.bits() >= 4
 }
 
 // The subject has these modes too in the slot's row.

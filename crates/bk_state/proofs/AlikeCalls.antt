@@ -2,7 +2,7 @@
 -- own levels; and at nothing else.
 use Rattle.std.proofs.Common.{◌≡◌, ℕ, ◌+◌, ◌*◌, ◌/◌, ◌%◌, ◌==◌, not, ◌&&◌, ◌||◌, List, [], ◌∷◌, length, Option, Some, None, refl, sym, ◌∙◌}
 use Rattle.std.specs.Prelude.{is_none, is_some, nat_lt, nat_le, option_map, find as first, if◌then◌else◌}
-use Rattle.std.specs.List.{list_any}
+use Rattle.std.specs.List.{list_any, list_all}
 use Rattle.std.specs.FinMap as map
 use Rattle.std.specs.FinSet as set
 use Rattle.bk_level.specs.Levels.{level_at, dominates}
@@ -16,17 +16,18 @@ use Rattle.bk_quota.specs.Charges.{passes, charge_of, governing_in, level_in, qu
 use Rattle.bk_process.specs.declared.process.Process.{Process}
 use Rattle.bk_state.specs.declared.cause.CallCause.{CallCause}
 use Rattle.bk_state.specs.declared.cause.CallCause.TheVariants as causes
-use Rattle.bk_state.specs.declared.rule.Rule.TheVariants.{GetRead, GetAppend, GetExecute, GetWrite, Release, Give, Rescind, Create, DeleteGroup}
+use Rattle.bk_state.specs.declared.rule.Rule.TheVariants.{GetRead, GetAppend, GetExecute, GetWrite, Release, Give, Rescind, Create, DeleteGroup, RaiseLevel}
 use Rattle.bk_state.specs.declared.call.Call.{Call}
 use Rattle.bk_state.specs.declared.call.Call.TheVariants.{ByRule, Other}
 use Rattle.bk_state.specs.declared.call.Service.TheVariants.{Window, Unwindow, Deposit, Send, Receive, LineOut, LineIn, Entry, Identify, Quota}
 use Rattle.bk_state.specs.declared.call.Service.TheVariants.{Pause, SetFaultEntry, Stop}
-use Rattle.bk_state.specs.State.{State, Object, find, clearance_of}
+use Rattle.bk_state.specs.State.{State, Object, find, clearance_of, with_raised}
+use Rattle.bk_state.specs.Causes.{answer_number, cause_number}
 use Rattle.bk_state.specs.Contents.{with_contents, with_word, put, has_message, without_message, has_byte, without_byte}
 use Rattle.bk_state.specs.Named.{is_named}
-use Rattle.bk_state.specs.Allowed.{is_simple, is_star, by_mode}
+use Rattle.bk_state.specs.Allowed.{is_simple, is_star, is_star_of_putting, by_mode}
 use Rattle.bk_state.specs.Request.{Request, register, request_in, is_outside, new_facts}
-use Rattle.bk_state.specs.KernelCall.{KernelCall, fails}
+use Rattle.bk_state.specs.KernelCall.{KernelCall, fails, is_above_greatest, is_wrong_current, breaks_star}
 use Rattle.bk_state.specs.AccessCalls.{get_read, get_append, get_execute, get_write, release, without_triples}
 use Rattle.bk_state.specs.RowCalls.{give, rescind, changed_by, changed_at, with_row}
 use Rattle.bk_state.specs.TreeCalls.{create, delete_group, is_no_object, new_object}
@@ -34,8 +35,9 @@ use Rattle.bk_state.specs.SegmentCalls.{window, unwindow, deposit}
 use Rattle.bk_state.specs.QueueCalls.{send, receive, line_out, line_in, message_in, of_contents, message_values, byte_values, byte_on}
 use Rattle.bk_state.specs.TellingCalls.{entry, identify, quota, child_at, entry_values}
 use Rattle.bk_state.specs.ProcessCalls.{pause, set_fault_entry, stop}
+use Rattle.bk_state.specs.LevelCalls.{raise_level}
 use Rattle.bk_state.specs.Calls.{call_of, definition_of, call_refusal}
-use Rattle.bk_state.specs.Answers.{outcome, reply, with_values, with_call, refused, answered_by, called_by, called}
+use Rattle.bk_state.specs.Answers.{outcome, raised_by, reply, with_values, with_call, refused, answered_by, called_by, called}
 
 -- ---- the object at a path becomes another
 
@@ -52,6 +54,16 @@ changed_access v path change (Some o) = refl
 
 kept_access : (v w : State) (path : Path) (change : Object → Object) → v.access ≡ w.access → (changed_at v path change).access ≡ (changed_at w path change).access
 kept_access v w path change access = changed_access v path change (find v path) ∙ access ∙ sym (changed_access w path change (find w path))
+
+-- ---- a level that is raised is no part of the objects and of the current access set
+
+raised_objects : (v : State) (s : ℕ) (level : Option ℕ) → (with_raised s level v).objects ≡ v.objects
+raised_objects v s None = refl
+raised_objects v s (Some level) = refl
+
+raised_access : (v : State) (s : ℕ) (level : Option ℕ) → (with_raised s level v).access ≡ v.access
+raised_access v s None = refl
+raised_access v s (Some level) = refl
 
 module _ (v w : State) (s : ℕ) (objects : v.objects ≡ w.objects) (access : v.access ≡ w.access) (levels : v.fixed.levels ≡ w.fixed.levels) (levels_of : clearance_of v s ≡ clearance_of w s) (subjects : length v.fixed.subjects ≡ length w.fixed.subjects) where
   -- ---- what each call's definition says is the same over both
@@ -158,6 +170,16 @@ module _ (v w : State) (s : ℕ) (objects : v.objects ≡ w.objects) (access : v
     empty = refl;
     objects_same = λ i. map.retain_keys (objects i) (λ other. not (is_inferior other request.path));
     access_same = λ i. set.retain (access i) (λ t. not (is_inferior t.1 request.path));
+    gives = refl;
+    sends = refl;
+  }
+
+  raise_level-alike : (request : Request) → Alike raise_level request
+  raise_level-alike request = record {
+    wrong = λ i. nat_le (length (levels i)) (register request 3);
+    empty = refl;
+    objects_same = objects;
+    access_same = access;
     gives = refl;
     sends = refl;
   }
@@ -304,6 +326,7 @@ module _ (v w : State) (s : ℕ) (objects : v.objects ≡ w.objects) (access : v
   each-alike (ByRule Rescind) request = rescind-alike request
   each-alike (ByRule Create) request = create-alike request
   each-alike (ByRule DeleteGroup) request = delete_group-alike request
+  each-alike (ByRule RaiseLevel) request = raise_level-alike request
   each-alike (Other Window) request = window-alike request
   each-alike (Other Unwindow) request = unwindow-alike request
   each-alike (Other Deposit) request = deposit-alike request
@@ -324,6 +347,20 @@ module _ (v w : State) (s : ℕ) (objects : v.objects ≡ w.objects) (access : v
   named [] = refl
   named (at ∷ path) = λ i. passes (λ facts. is_directory facts.kind) (option_map (λ o. o.facts) (map.get (objects i) path)) && (set.contains (access i) (s, path, Read) || set.contains (access i) (s, path, Write))
 
+  above_greatest : (call : KernelCall) (request : Request) (level : Option ℕ) → is_above_greatest v s call request level ≡ is_above_greatest w s call request level
+  above_greatest call request None = λ i. not (passes (λ facts. by_mode (λ mode. is_simple mode (level_at (levels i) (levels_of i).greatest) (level_at (levels i) facts.level)) call.mode) (option_map (λ o. o.facts) (map.get (objects i) request.path)))
+  above_greatest call request (Some level) = λ i. not (dominates (level_at (levels i) (levels_of i).greatest) (level_at (levels i) level))
+
+  wrong_current : (call : KernelCall) (request : Request) (level : Option ℕ) → is_wrong_current v s call request level ≡ is_wrong_current w s call request level
+  wrong_current call request None = λ i. not (passes (λ facts. by_mode (λ mode. is_star mode (level_at (levels i) (levels_of i).current) (level_at (levels i) facts.level)) call.mode) (option_map (λ o. o.facts) (map.get (objects i) request.path)))
+  wrong_current call request (Some level) = λ i. not (dominates (level_at (levels i) level) (level_at (levels i) (levels_of i).current))
+
+  star_property : (level : Option ℕ) → breaks_star v s level ≡ breaks_star w s level
+  star_property None = refl
+  star_property (Some level) = λ i. not (list_all
+      (λ t. not (t.0 == s) || passes (λ facts. is_star_of_putting t.2 (level_at (levels i) level) (level_at (levels i) facts.level)) (option_map (λ o. o.facts) (map.get (objects i) t.1)))
+      (set.items (access i)))
+
   each_fails : (call : KernelCall) (request : Request) → Alike call request → (cause : CallCause) → fails v s call request cause ≡ fails w s call request cause
   each_fails call request alike causes.NoPath = refl
   each_fails call request alike causes.BadArgument = alike.wrong
@@ -334,8 +371,9 @@ module _ (v w : State) (s : ℕ) (objects : v.objects ≡ w.objects) (access : v
   each_fails call request alike causes.NoParentWrite = λ i. not (set.contains (access i) (s, parent request.path, Write))
   each_fails call request alike causes.NotHeld = λ i. not (list_any (λ mode. set.contains (access i) (s, request.path, mode)) call.needs)
   each_fails call request alike causes.NotInRow = λ i. not (passes (λ facts. is_within (call.modes request) (in_row facts.row s)) (option_map (λ o. o.facts) (map.get (objects i) request.path)))
-  each_fails call request alike causes.AboveGreatest = λ i. not (passes (λ facts. by_mode (λ mode. is_simple mode (level_at (levels i) (levels_of i).greatest) (level_at (levels i) facts.level)) call.mode) (option_map (λ o. o.facts) (map.get (objects i) request.path)))
-  each_fails call request alike causes.WrongCurrent = λ i. not (passes (λ facts. by_mode (λ mode. is_star mode (level_at (levels i) (levels_of i).current) (level_at (levels i) facts.level)) call.mode) (option_map (λ o. o.facts) (map.get (objects i) request.path)))
+  each_fails call request alike causes.AboveGreatest = above_greatest call request (call.raises request)
+  each_fails call request alike causes.WrongCurrent = wrong_current call request (call.raises request)
+  each_fails call request alike causes.StarProperty = star_property (call.raises request)
   each_fails call request alike causes.LevelFalls = λ i. not (passes (λ above. dominates (level_at (levels i) request.level) (level_at (levels i) above.level)) (option_map (λ o. o.facts) (map.get (objects i) (parent request.path))))
   each_fails call request alike causes.Taken = λ i. is_some (option_map (λ o. o.facts) (map.get (objects i) request.path))
   each_fails call request alike causes.OverQuota = λ i.
@@ -354,28 +392,43 @@ module _ (v w : State) (s : ℕ) (objects : v.objects ≡ w.objects) (access : v
 
   outcome_objects : (call : Call) (general : List ℕ) → (outcome v s call general).objects ≡ (outcome w s call general).objects
   unfolding outcome
-  outcome_objects call general = (each-alike call (request_in general)).objects_same
+  outcome_objects call general =
+      raised_objects _ s ((definition_of call).raises (request_in general)) ∙ (each-alike call (request_in general)).objects_same
+      ∙ sym (raised_objects _ s ((definition_of call).raises (request_in general)))
 
   outcome_access : (call : Call) (general : List ℕ) → (outcome v s call general).access ≡ (outcome w s call general).access
   unfolding outcome
-  outcome_access call general = (each-alike call (request_in general)).access_same
+  outcome_access call general =
+      raised_access _ s ((definition_of call).raises (request_in general)) ∙ (each-alike call (request_in general)).access_same
+      ∙ sym (raised_access _ s ((definition_of call).raises (request_in general)))
 
   replies : (call : Call) (general : List ℕ) → reply v s call general ≡ reply w s call general
   unfolding reply
   replies call general = (each-alike call (request_in general)).gives
 
+  refused-alike : (p : Process) (cause : CallCause) → refused v p cause ≡ refused w p cause
+  refused-alike p cause = λ i. record {
+    objects = objects i;
+    access = access i;
+    raised = None;
+    process = with_values (answer_number cause ∷ cause_number cause ∷ []) p;
+    cause = Some cause;
+    sent = None;
+  }
+
   answered-alike : (p : Process) (call : Call) (o : Option CallCause) → answered_by v s p call o ≡ answered_by w s p call o
   answered-alike p call None = λ i. record {
     objects = outcome_objects call p.registers.general i;
     access = outcome_access call p.registers.general i;
+    raised = raised_by call p.registers.general;
     process = with_values (replies call p.registers.general i) (with_call call p.registers.general p);
     cause = None;
     sent = (each-alike call (request_in p.registers.general)).sends i;
   }
-  answered-alike p call (Some cause) = λ i. refused (record { fixed = w.fixed; objects = objects i; access = access i; processes = w.processes }) p cause
+  answered-alike p call (Some cause) = refused-alike p cause
 
   by_call : (p : Process) (o : Option Call) → called_by v s p o ≡ called_by w s p o
-  by_call p None = λ i. refused (record { fixed = w.fixed; objects = objects i; access = access i; processes = w.processes }) p causes.NoCall
+  by_call p None = refused-alike p causes.NoCall
   by_call p (Some call) = (λ i. answered_by v s p call (refusals call p.registers.general i)) ∙ answered-alike p call (call_refusal w s call p.registers.general)
 
   pub called-alike : (p : Process) (number : ℕ) → called v s p number ≡ called w s p number

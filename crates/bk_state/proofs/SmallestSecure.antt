@@ -110,7 +110,7 @@ one_level = (tt, tt)
 pub smallest-Secure : Secure smallest
 smallest-Secure = record {
   processes = refl;
-  shape = record { rows = λ p f is. subst (λ g. length g.row ≡ most_subjects) (facts_root p f is).1 refl; processes = refl };
+  shape = record { current = refl; listed = refl; rows = λ p f is. subst (λ g. length g.row ≡ most_subjects) (facts_root p f is).1 refl; processes = refl };
   distinct = one_level;
   root = ap (λ a. passes (λ f. is_directory f.kind) a) (ap (option_map (λ o. o.facts)) (found []));
   parents = λ e p f is. cc ((facts_root (e ∷ p) f is).0);

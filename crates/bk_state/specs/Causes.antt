@@ -16,6 +16,7 @@ cause_number causes.NotHeld = 8
 cause_number causes.Empty = 9
 cause_number causes.TooLong = 10
 cause_number causes.IsRoot = 11
+cause_number causes.StarProperty = 12
 cause_number causes.NoCall = 20
 cause_number causes.NoPath = 21
 cause_number causes.NotNamed = 22
@@ -23,7 +24,7 @@ cause_number causes.WrongKind = 23
 cause_number causes.BadArgument = 24
 cause_number causes.NoObject = 25
 
--- the answer is no up to 11, and `?` from 20 on: the caller is not to know more
+-- the answer is no up to 12, and `?` from 20 on: the caller is not to know more
 abbrev pub is_no : CallCause → Bool
 is_no cause = nat_lt (cause_number cause) 20
 
@@ -50,7 +51,7 @@ abbrev pub order : List CallCause
 order =
     causes.NoCall ∷ causes.NoPath ∷ causes.BadArgument ∷ causes.NotNamed ∷ causes.NoObject ∷ causes.WrongKind
     ∷ causes.IsRoot ∷ causes.NoParentWrite ∷ causes.NotHeld ∷ causes.NotInRow ∷ causes.AboveGreatest ∷ causes.WrongCurrent
-    ∷ causes.LevelFalls ∷ causes.Taken ∷ causes.OverQuota ∷ causes.TooLong ∷ causes.Empty ∷ []
+    ∷ causes.LevelFalls ∷ causes.Taken ∷ causes.OverQuota ∷ causes.TooLong ∷ causes.Empty ∷ causes.StarProperty ∷ []
 
 -- the causes stand in the order in which all stand
 abbrev pub is_in_order : (listed all : List CallCause) → Bool
@@ -75,6 +76,7 @@ is_of_words causes.NotHeld = false
 is_of_words causes.Empty = false
 is_of_words causes.TooLong = false
 is_of_words causes.IsRoot = false
+is_of_words causes.StarProperty = false
 is_of_words causes.NotNamed = false
 is_of_words causes.WrongKind = false
 is_of_words causes.NoObject = false

@@ -15,6 +15,7 @@ pub mod SegmentCalls
 pub mod QueueCalls
 pub mod TellingCalls
 pub mod ProcessCalls
+pub mod LevelCalls
 pub mod Calls
 pub mod Answers
 pub mod Low

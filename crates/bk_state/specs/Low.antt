@@ -34,6 +34,10 @@ contents_under level v (Some object) = if is_under level v object.facts then Som
 pub record View : Type 0 where
   -- what no event changes
   pub fixed : Fixed
+  -- whether a subject is there whose current level is under the level
+  pub subjects : (s : ℕ) → Bool
+  -- the number of a subject's current level
+  pub current : (s : ℕ) → Option ℕ
   -- the process of a subject
   pub process : (s : ℕ) → Option Process
   -- whether a subject holds an object by a mode
@@ -42,12 +46,14 @@ pub record View : Type 0 where
   pub facts : Path → Option Facts
   pub contents : Path → Option Contents
 
--- What a level sees of a state: what no event changes; the processes and the current accesses of the subjects whose current
--- level is under it; the facts of root and of each object whose parent's level is under it; and the contents of each object
--- whose own level is under it.
+-- What a level sees of a state: what no event changes; which subjects' current levels are under it, and of these the levels,
+-- the processes and the current accesses; the facts of root and of each object whose parent's level is under it; and the
+-- contents of each object whose own level is under it.
 unfoldable pub low : Level → State → View
 low level v = record {
   fixed = v.fixed;
+  subjects = is_subject_under level v;
+  current = λ s. if is_subject_under level v s then Some (slice_index v.current s) else None;
   process = λ s. if is_subject_under level v s then process_of v s else None;
   holds = λ s path mode. is_subject_under level v s && holds v s path mode;
   facts = λ path. if shows level v path then facts_at v path else None;

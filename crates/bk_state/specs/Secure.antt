@@ -1,5 +1,5 @@
 -- When a state is secure.
-use Rattle.std.specs.Prelude.{◌≡◌, ℕ, ◌*◌, ◌%◌, ◌^◌, ◌<◌, ◌≤◌, Bool, true, ◌&&◌, [], ◌∷◌, length, Some, slice_index, ◌==◌, ◌⊎◌}
+use Rattle.std.specs.Prelude.{◌≡◌, ℕ, ◌*◌, ◌%◌, ◌^◌, ◌<◌, ◌≤◌, Bool, true, ◌&&◌, [], ◌∷◌, length, Some, slice_index, ◌==◌, nat_lt, ◌⊎◌}
 use Rattle.std.specs.List.{list_all, IsDistinct}
 use Rattle.bk_level.specs.Levels.{dominates, is_same_level}
 use Rattle.bk_path.specs.Paths.{Path}
@@ -52,9 +52,11 @@ is_whole process =
     length process.windows == windows_of_process && length process.entries == entries_of_process
     && length process.registers.general == general_registers
 
--- Each row has a set of modes for every subject that there can be, and each process all its windows, fault entries and
--- general registers.
+-- Each subject has a current level, which is one of the list; each row has a set of modes for every subject that there can
+-- be, and each process all its windows, fault entries and general registers.
 pub record HasShape (v : State) : Type 0 where
+  pub current : length v.current ≡ length v.fixed.subjects
+  pub listed : list_all (λ level. nat_lt level (length v.fixed.levels)) v.current ≡ true
   pub rows : (path : Path) (facts : Facts) → facts_at v path ≡ Some facts → length facts.row ≡ most_subjects
   pub processes : list_all is_whole v.processes ≡ true
 
@@ -62,7 +64,7 @@ pub record HasShape (v : State) : Type 0 where
 pub record Secure (v : State) : Type 0 where
   -- there are as many processes as subjects
   pub processes : length v.processes ≡ length v.fixed.subjects
-  -- rows and processes have all their places
+  -- current levels, rows and processes have all their places
   pub shape : HasShape v
   -- no two numbers of the list are those of one level
   pub distinct : IsDistinct is_same_level v.fixed.levels

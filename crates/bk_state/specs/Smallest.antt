@@ -31,11 +31,12 @@ abbrev pub smallest : State
 smallest = record {
   fixed = record {
     levels = lowest ∷ [];
-    subjects = record { greatest = 0; current = 0 } ∷ [];
+    subjects = 0 ∷ [];
     lines = [];
     turns = 1;
     schedule = 0 ∷ [];
   };
+  current = 0 ∷ [];
   objects = map.from_sorted (([], only_root) ∷ []);
   access = set.from_list ((0, [], Write) ∷ []);
   processes = only_process ∷ [];

@@ -16,7 +16,6 @@ use Rattle.bk_state.specs.declared.image.Hold.{Hold}
 use Rattle.bk_state.specs.declared.image.ObjectRec.{ObjectRec}
 use Rattle.bk_state.specs.declared.image.SubjectRec.{SubjectRec}
 use Rattle.bk_state.specs.declared.image.WindowRec.{WindowRec}
-use Rattle.bk_state.specs.declared.clearance.Clearance.{Clearance}
 use Rattle.bk_space.specs.Status.{status_of}
 use Rattle.bk_process.specs.declared.process.Process.{Process}
 use Rattle.bk_process.specs.declared.status.Status9.TheVariants.{Running}
@@ -60,10 +59,6 @@ process_from s = record {
   status = Running;
 }
 
--- the levels of a subject's record
-abbrev pub clearance_from : SubjectRec → Clearance
-clearance_from s = record { greatest = s.f_s; current = s.f_c }
-
 -- the modes of a set
 abbrev pub modes_in : Modes → List AccessMode
 modes_in modes = filter (has modes) (Read ∷ Execute ∷ Write ∷ Append ∷ [])
@@ -83,16 +78,17 @@ is_line n (Line k) = k == n
 abbrev pub line_level : List ObjectRec → ℕ → ℕ
 line_level objects n = unwrap_or (option_map (λ o. o.facts.level) (first (λ o. is_line n o.facts.kind) objects)) 0
 
--- the image's objects, rows and holds; empty queues; each process with its registers, running
+-- the image's levels of subjects, objects, rows and holds; empty queues; each process with its registers, running
 unfoldable pub state_of : Image → State
 state_of image = record {
   fixed = record {
     levels = image.levels;
-    subjects = map clearance_from image.subjects;
+    subjects = map (λ s. s.f_s) image.subjects;
     lines = map (line_level image.objects) (range_with_len 0 image.lines);
     turns = image.turns;
     schedule = image.schedule;
   };
+  current = map (λ s. s.f_c) image.subjects;
   objects = finmap.from_entries (map (λ o. (o.path, object_from o)) image.objects);
   access = set.from_list (flat_map triples_from image.holds);
   processes = map process_from image.subjects;

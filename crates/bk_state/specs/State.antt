@@ -1,5 +1,5 @@
 -- The state of the system: what no event changes, the objects by path, the current access set, the processes.
-use Rattle.std.specs.Prelude.{ℕ, Bool, List, Option, slice_index_or, slice_get, option_map}
+use Rattle.std.specs.Prelude.{ℕ, Bool, List, Option, Some, None, slice_index, slice_get, slice_set, option_map}
 use Rattle.std.specs.Ordering.{nat_cmp, on, then_cmp}
 use Rattle.std.specs.declared.cmp.Ordering.{Ordering}
 use Rattle.std.specs.FinMap as map
@@ -25,10 +25,11 @@ pub record Object : Type 0 where
   pub facts : Facts
   pub contents : Contents
 
--- what no event changes: the levels, each subject's, the number of each line's level, the turns of a slot, the schedule
+-- what no event changes: the levels, the numbers of each subject's greatest level and of each line's level, the turns of a
+-- slot, the schedule
 pub record Fixed : Type 0 where
   pub levels : List Level
-  pub subjects : List Clearance
+  pub subjects : List ℕ
   pub lines : List ℕ
   pub turns : ℕ
   pub schedule : List ℕ
@@ -41,9 +42,10 @@ Triple = ℕ × Path × AccessMode
 abbrev pub triple_cmp : Triple → Triple → Ordering
 triple_cmp = then_cmp (on (λ t. t.0) nat_cmp) (then_cmp (on (λ t. t.1) path_cmp) (on (λ t. mode_number t.2) nat_cmp))
 
--- a state of the system
+-- a state of the system; `current` is the number of each subject's current level
 pub record State : Type 0 where
   pub fixed : Fixed
+  pub current : List ℕ
   pub objects : map.FinMap path_cmp Object
   pub access : set.FinSet triple_cmp
   pub processes : List Process
@@ -64,9 +66,9 @@ holds v s p x = set.contains v.access (s, p, x)
 abbrev pub process_of : State → ℕ → Option Process
 process_of v s = slice_get v.processes s
 
--- the levels of a subject; of none, the lowest
+-- the numbers of a subject's levels; of none, those of the first level
 abbrev pub clearance_of : State → ℕ → Clearance
-clearance_of v s = slice_index_or v.fixed.subjects s (record { greatest = 0; current = 0 })
+clearance_of v s = record { greatest = slice_index v.fixed.subjects s; current = slice_index v.current s }
 
 -- the subject's current level
 abbrev pub current_level : State → ℕ → Level
@@ -79,3 +81,8 @@ greatest_level v s = level_at v.fixed.levels (clearance_of v s).greatest
 -- the level of an object with these facts
 abbrev pub level_of : State → Facts → Level
 level_of v facts = level_at v.fixed.levels facts.level
+
+-- the state in which the subject's current level is the one with that number, where there is a number
+abbrev pub with_raised : (s : ℕ) → Option ℕ → State → State
+with_raised s None v = v
+with_raised s (Some level) v = record v { current = slice_set v.current s level }

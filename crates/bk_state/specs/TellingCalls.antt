@@ -4,8 +4,6 @@ use Rattle.bk_path.specs.Paths.{Path}
 use Rattle.bk_object.specs.Modes.{Read, Write, modes_where}
 use Rattle.bk_object.specs.Kinds.{is_directory, kind_number, blocks_or_line}
 use Rattle.bk_object.specs.Rows.{in_row}
-use Rattle.bk_object.specs.declared.Kind.{Kind}
-use Rattle.bk_object.specs.declared.Kind.TheVariants.{Directory, Segment, Mailbox, Line}
 use Rattle.bk_object.specs.declared.Facts.{Facts}
 use Rattle.bk_state.specs.declared.cause.CallCause.TheVariants.{NoPath, BadArgument, NotNamed, NoObject, WrongKind, NotHeld, Empty}
 use Rattle.bk_state.specs.State.{State, facts_at, holds, clearance_of}

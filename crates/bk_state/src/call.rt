@@ -1,6 +1,6 @@
 use crate::Rule;
 
-/// The kernel calls that are none of the nine rules. `Identify` tells the caller its own number and levels.
+/// The kernel calls that are none of the ten rules. `Identify` tells the caller its own number and levels.
 #[derive(Clone, Copy, PartialEq, Eq, Debug)]
 pub enum Service {
     Window,
@@ -18,7 +18,7 @@ pub enum Service {
     Stop,
 }
 
-/// A kernel call: one of the nine rules, or another service of the kernel.
+/// A kernel call: one of the ten rules, or another service of the kernel.
 #[derive(Clone, Copy, PartialEq, Eq, Debug)]
 pub enum Call {
     ByRule(Rule),

@@ -26,6 +26,8 @@ pub enum CallCause {
     TooLong,
     /// The object is root.
     IsRoot,
+    /// What the caller holds by write or append may not be held so at the new level.
+    StarProperty,
     /// There is no such call.
     NoCall,
     /// The words are no path.
@@ -41,7 +43,7 @@ pub enum CallCause {
 }
 
 impl CallCause {
-    /// The number that the caller finds in R1: 1 to 11 where the answer is no, 20 to 25 where it is `?`.
+    /// The number that the caller finds in R1: 1 to 12 where the answer is no, 20 to 25 where it is `?`.
     pub fn number(self) -> u8
         ensures { result ≡ cause_number self }
     {
@@ -57,6 +59,7 @@ impl CallCause {
             CallCause::Empty => 9,
             CallCause::TooLong => 10,
             CallCause::IsRoot => 11,
+            CallCause::StarProperty => 12,
             CallCause::NoCall => 20,
             CallCause::NoPath => 21,
             CallCause::NotNamed => 22,

@@ -13,9 +13,9 @@ ghost use Rattle.bk_state.specs.TreeCalls.{is_no_object};
 
 use bk_object::Kind;
 
-/// The checks of the 22 calls by the numbers of their causes, and the order of all.
+/// The checks of the 23 calls by the numbers of their causes, and the order of all.
 pub fn law_checks()
-    ensures order { map cause_number order ≡ 20 ∷ 21 ∷ 24 ∷ 22 ∷ 25 ∷ 23 ∷ 11 ∷ 4 ∷ 8 ∷ 1 ∷ 2 ∷ 3 ∷ 5 ∷ 6 ∷ 7 ∷ 10 ∷ 9 ∷ [] }
+    ensures order { map cause_number order ≡ 20 ∷ 21 ∷ 24 ∷ 22 ∷ 25 ∷ 23 ∷ 11 ∷ 4 ∷ 8 ∷ 1 ∷ 2 ∷ 3 ∷ 5 ∷ 6 ∷ 7 ∷ 10 ∷ 9 ∷ 12 ∷ [] }
     ensures checks { map (λ call. map cause_number (definition_of call).checks) calls ≡
         (21 ∷ 22 ∷ 25 ∷ 23 ∷ 1 ∷ 2 ∷ 3 ∷ [])
         ∷ (21 ∷ 22 ∷ 25 ∷ 23 ∷ 1 ∷ 3 ∷ [])
@@ -39,6 +39,7 @@ pub fn law_checks()
         ∷ []
         ∷ (24 ∷ [])
         ∷ []
+        ∷ (24 ∷ 2 ∷ 3 ∷ 12 ∷ [])
         ∷ [] }
 {}
 

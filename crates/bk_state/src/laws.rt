@@ -19,7 +19,7 @@ pub fn law_order_of_checks()
     ensures { (call : Call) → is_in_order (definition_of call).checks order ≡ true }
 {}
 
-/// The calls have the numbers 1 to 26 (octal), the nine rules first.
+/// The calls have the numbers 1 to 27 (octal): nine rules, the other services, and the tenth rule.
 pub fn law_numbers()
     ensures none { call_of 0 ≡ None }
     ensures rules { map call_of (1 ∷ 2 ∷ 3 ∷ 4 ∷ 5 ∷ 6 ∷ 7 ∷ 0o10 ∷ 0o11 ∷ []) ≡
@@ -32,7 +32,8 @@ pub fn law_numbers()
         ∷ Some (Call.Other Service.LineIn) ∷ Some (Call.Other Service.Entry) ∷ Some (Call.Other Service.Identify)
         ∷ Some (Call.Other Service.Quota) ∷ Some (Call.Other Service.Pause) ∷ Some (Call.Other Service.SetFaultEntry)
         ∷ Some (Call.Other Service.Stop) ∷ [] }
-    ensures past { (n : ℕ) → 0o26 < n → call_of n ≡ None }
+    ensures tenth { call_of 0o27 ≡ Some (Call.ByRule Rule.RaiseLevel) }
+    ensures past { (n : ℕ) → 0o27 < n → call_of n ≡ None }
 {}
 
 /// A call looks at the objects, the current access set and the levels, at the number of subjects and the caller's own

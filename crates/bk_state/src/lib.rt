@@ -5,7 +5,7 @@
 //! security condition and the *-property), `specs/Secure.antt` (the secure state), `specs/Causes.antt` (why a call is refused),
 //! `specs/Request.antt` (what a call asks for), `specs/KernelCall.antt` (what a call is, and when each check fails),
 //! `specs/AccessCalls.antt`, `specs/RowCalls.antt`, `specs/TreeCalls.antt`, `specs/SegmentCalls.antt`, `specs/QueueCalls.antt`,
-//! `specs/TellingCalls.antt`, `specs/ProcessCalls.antt` (each call, one definition), `specs/Calls.antt` (the calls by their
+//! `specs/TellingCalls.antt`, `specs/ProcessCalls.antt`, `specs/LevelCalls.antt` (each call, one definition), `specs/Calls.antt` (the calls by their
 //! numbers, and the check by which each is refused), `specs/Answers.antt` (what a call comes to), `specs/Low.antt` (what a level
 //! sees of a state), `specs/Start.antt` (the state that an image stands for), `specs/Limits.antt` (how much an image has at
 //! most), `specs/Smallest.antt` (a small secure state), `specs/Example.antt` (levels for examples).

@@ -1,4 +1,4 @@
-/// The nine rules by which the current access set, the rows and the objects change.
+/// The ten rules by which the current access set, the rows, the objects and the current levels change.
 #[derive(Clone, Copy, PartialEq, Eq, Debug)]
 pub enum Rule {
     GetRead,
@@ -10,4 +10,5 @@ pub enum Rule {
     Rescind,
     Create,
     DeleteGroup,
+    RaiseLevel,
 }
