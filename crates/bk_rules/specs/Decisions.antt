@@ -16,7 +16,7 @@ use Rattle.bk_state.specs.Allowed.{is_simple, is_star, by_mode}
 use Rattle.bk_state.specs.Causes.{cause_number, is_no}
 use Rattle.bk_state.specs.Named.{is_named}
 use Rattle.bk_state.specs.Request.{Request}
-use Rattle.bk_state.specs.KernelCall.{KernelCall, has_room}
+use Rattle.bk_state.specs.KernelCall.{KernelCall, has_room, breaks_star}
 use Rattle.bk_state.specs.Calls.{rule_call, rule_checks}
 use Rattle.bk_rules.specs.declared.facts.RuleFacts.{RuleFacts}
 use Rattle.bk_rules.specs.declared.answers.Decision.{Decision}
@@ -30,6 +30,16 @@ is_get rule = is_some (rule_call rule).mode
 abbrev pub asking_for : Modes → Request
 asking_for modes = record { path = []; modes = modes; subject = 0; kind = Directory; blocks = 0; level = 0; quota = 0; general = [] }
 
+-- the greatest level doesn't dominate the object's, as far as the mode asks; or, where the call raises a level, the new one
+abbrev pub is_above_greatest : RuleFacts → KernelCall → Option ℕ → Bool
+is_above_greatest facts call None = not (by_mode (λ mode. is_simple mode facts.f_s facts.f_o) call.mode)
+is_above_greatest facts call (Some level) = not (dominates facts.f_s facts.new_level)
+
+-- the current level doesn't stand to the object's as the mode asks; or the new one doesn't dominate it
+abbrev pub is_wrong_current : RuleFacts → KernelCall → Option ℕ → Bool
+is_wrong_current facts call None = not (by_mode (λ mode. is_star mode facts.f_c facts.f_o) call.mode)
+is_wrong_current facts call (Some level) = not (dominates facts.new_level facts.f_c)
+
 -- the check of that cause fails, for the call that a rule is
 abbrev pub fails : RuleFacts → KernelCall → CallCause → Bool
 fails facts call causes.NotNamed = not facts.named
@@ -38,11 +48,12 @@ fails facts call causes.WrongKind = not (call.is_for facts.kind && is_within (ca
 fails facts call causes.IsRoot = facts.root
 fails facts call causes.NoParentWrite = not facts.parent_write
 fails facts call causes.NotInRow = not (is_within (call.modes (asking_for facts.modes)) facts.row)
-fails facts call causes.AboveGreatest = not (by_mode (λ mode. is_simple mode facts.f_s facts.f_o) call.mode)
-fails facts call causes.WrongCurrent = not (by_mode (λ mode. is_star mode facts.f_c facts.f_o) call.mode)
+fails facts call causes.AboveGreatest = is_above_greatest facts call (call.raises (asking_for no_modes))
+fails facts call causes.WrongCurrent = is_wrong_current facts call (call.raises (asking_for no_modes))
 fails facts call causes.LevelFalls = not (dominates facts.new_level facts.parent_level)
 fails facts call causes.Taken = facts.taken
 fails facts call causes.OverQuota = not facts.fits
+fails facts call causes.StarProperty = not facts.rises
 -- of the calls that are no rule, and of the words and arguments of a call
 fails facts call causes.NotHeld = false
 fails facts call causes.Empty = false
@@ -72,9 +83,13 @@ answer facts rule = answer_for (refusal_by facts rule)
 abbrev pub level_or_lowest : State → Option Facts → Level
 level_or_lowest v facts = unwrap_or (option_map (level_of v) facts) lowest
 
--- The facts of a subject's call in a state. Where there is no object, or no parent, what is said of it doesn't matter.
-abbrev pub facts_of : State → (s : ℕ) → Request → RuleFacts
-facts_of v s request = record {
+-- the number of the level that is asked for: of the caller, where the rule raises it, and else of a new object
+abbrev pub new_level_number : Rule → Request → ℕ
+new_level_number rule request = unwrap_or ((rule_call rule).raises request) request.level
+
+-- The facts of a subject's call of a rule in a state. Where there is no object, or no parent, what is said of it doesn't matter.
+abbrev pub facts_of : State → (s : ℕ) → Rule → Request → RuleFacts
+facts_of v s rule request = record {
   named = is_named v s request.path;
   there = is_some (facts_at v request.path);
   root = is_root request.path;
@@ -85,8 +100,9 @@ facts_of v s request = record {
   f_o = level_or_lowest v (facts_at v request.path);
   parent_write = holds v s (parent request.path) Write;
   parent_level = level_or_lowest v (facts_at v (parent request.path));
-  new_level = level_at v.fixed.levels request.level;
+  new_level = level_at v.fixed.levels (new_level_number rule request);
   taken = is_some (facts_at v request.path);
   fits = has_room v request;
+  rises = not (breaks_star v s ((rule_call rule).raises request));
   modes = request.modes;
 }

@@ -1,5 +1,5 @@
 -- Facts of which each answer was worked by hand: a named segment that grants the caller r, w and a, and levels that differ.
-use Rattle.std.specs.Prelude.{true, false}
+use Rattle.std.specs.Prelude.{Bool, true, false}
 use Rattle.bk_level.specs.Levels.{Level}
 use Rattle.bk_object.specs.Modes.{no_modes}
 use Rattle.bk_object.specs.declared.Kind.TheVariants.{Segment}
@@ -22,5 +22,10 @@ seen_from greatest current object = record {
   new_level = low;
   taken = true;
   fits = false;
+  rises = false;
   modes = no_modes;
 }
+
+-- a caller with these levels that asks for a new one, and whether what it holds allows that
+abbrev pub rising : (greatest current new : Level) → Bool → RuleFacts
+rising greatest current new allowed = record (seen_from greatest current low) { new_level = new; rises = allowed }

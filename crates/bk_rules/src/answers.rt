@@ -1,13 +1,13 @@
 // The decision.
 
-ghost use Rattle.std.specs.Prelude.{◌≡◌, [], ◌∷◌, ℕ, IsTrue};
+ghost use Rattle.std.specs.Prelude.{◌≡◌, [], ◌∷◌, ℕ, true, false, IsTrue};
 ghost use Rattle.bk_state.specs.declared.cause.CallCause.TheVariants as causes;
 ghost use Rattle.bk_state.specs.Allowed.{by_mode, is_star};
 ghost use Rattle.bk_state.specs.Calls.{refusal as refusal_in_state, rule_call};
 ghost use Rattle.bk_state.specs.Request.{Request};
 ghost use Rattle.bk_state.specs.State as model;
 ghost use Rattle.bk_rules.specs.Decisions as decisions;
-ghost use Rattle.bk_rules.specs.Example.{seen_from};
+ghost use Rattle.bk_rules.specs.Example.{rising, seen_from};
 ghost use Rattle.bk_state.specs.Example.{low, marked, middle};
 ghost use Rattle.bk_rules.specs.declared.answers.Decision.TheVariants.{No, Yes};
 
@@ -19,7 +19,7 @@ use bk_state::{CallCause, Rule};
 #[derive(Clone, Copy, PartialEq, Eq, Debug)]
 pub enum Decision {
     Yes,
-    /// A cause of 1 to 11.
+    /// A cause of 1 to 12.
     No(u8),
     /// A cause of 20 to 25: the caller isn't to know more.
     Unknown(u8),
@@ -39,12 +39,13 @@ pub fn decide(facts: &RuleFacts, rule: Rule) -> Decision
 /// The first of the rule's checks that fails.
 ///
 /// The order is: not named, no object, of a wrong kind, root, parent not written, not in the row, above the greatest level,
-/// wrong current level, a level that falls, taken, over quota. Each is made only for the rules that list it.
+/// wrong current level, a level that falls, taken, over quota, what is held. Each is made only for the rules that list it.
 pub fn refusal(facts: &RuleFacts, rule: Rule) -> Option<CallCause>
     ensures first { result ≡ decisions.refusal_by facts.now rule }
 {
     match rule {
         Rule::Release => None,
+        Rule::RaiseLevel => raise(facts),
         _ if !facts.named => Some(CallCause::NotNamed),
         Rule::Create => create(facts),
         _ if !facts.there => Some(CallCause::NoObject),
@@ -61,12 +62,12 @@ pub fn refusal(facts: &RuleFacts, rule: Rule) -> Option<CallCause>
 /// that check's.
 pub fn law_answers()
     ensures refusal { (v : model.State) (s : ℕ) (rule : Rule) (request : Request) →
-        decisions.refusal_by (decisions.facts_of v s request) rule ≡ refusal_in_state v s rule request }
+        decisions.refusal_by (decisions.facts_of v s rule request) rule ≡ refusal_in_state v s rule request }
     ensures answer { (v : model.State) (s : ℕ) (rule : Rule) (request : Request) →
-        decisions.answer (decisions.facts_of v s request) rule ≡ decisions.answer_for (refusal_in_state v s rule request) }
+        decisions.answer (decisions.facts_of v s rule request) rule ≡ decisions.answer_for (refusal_in_state v s rule request) }
 {}
 
-/// Who may come to hold a segment by which mode, at levels that were worked by hand.
+/// Who may come to hold a segment by which mode, and who may raise its level, at levels that were worked by hand.
 pub fn law_example()
     ensures above_greatest { decisions.answer (seen_from low low middle) Rule.GetRead ≡ No 2 }
     ensures above_current { decisions.answer (seen_from middle low middle) Rule.GetRead ≡ No 3 }
@@ -77,6 +78,10 @@ pub fn law_example()
     ensures append_below { decisions.answer (seen_from middle middle low) Rule.GetAppend ≡ No 3 }
     ensures append_above { decisions.answer (seen_from low low middle) Rule.GetAppend ≡ Yes }
     ensures not_written { decisions.answer (seen_from middle middle middle) Rule.Create ≡ No 4 }
+    ensures rise_above_greatest { decisions.answer (rising low low middle true) Rule.RaiseLevel ≡ No 2 }
+    ensures fall { decisions.answer (rising middle middle low true) Rule.RaiseLevel ≡ No 3 }
+    ensures rise_while_held { decisions.answer (rising middle low middle false) Rule.RaiseLevel ≡ No 12 }
+    ensures rise { decisions.answer (rising middle low middle true) Rule.RaiseLevel ≡ Yes }
 {}
 
 // The last checks of create, for a named object.
@@ -92,6 +97,21 @@ fn create(facts: &RuleFacts) -> Option<CallCause>
         Some(CallCause::Taken)
     } else if !facts.fits {
         Some(CallCause::OverQuota)
+    } else {
+        None
+    }
+}
+
+// The checks of a raise: the new level lies between the caller's current and greatest one, and what is held allows it.
+fn raise(facts: &RuleFacts) -> Option<CallCause>
+    ensures first { result ≡ decisions.refusal_by facts.now Rule.RaiseLevel }
+{
+    if !facts.f_s.dominates(facts.new_level) {
+        Some(CallCause::AboveGreatest)
+    } else if !facts.new_level.dominates(facts.f_c) {
+        Some(CallCause::WrongCurrent)
+    } else if !facts.rises {
+        Some(CallCause::StarProperty)
     } else {
         None
     }
@@ -153,6 +173,11 @@ fn is_star(facts: &RuleFacts, rule: Rule) -> bool
         Rule::GetRead | Rule::GetExecute => facts.f_c.dominates(facts.f_o),
         Rule::GetAppend => facts.f_o.dominates(facts.f_c),
         Rule::GetWrite => facts.f_o == facts.f_c,
-        Rule::Release | Rule::Give | Rule::Rescind | Rule::Create | Rule::DeleteGroup => true,
+        Rule::Release
+        | Rule::Give
+        | Rule::Rescind
+        | Rule::Create
+        | Rule::DeleteGroup
+        | Rule::RaiseLevel => true,
     }
 }

@@ -26,12 +26,14 @@ pub struct RuleFacts {
     pub parent_write: bool,
     /// The parent's level.
     pub parent_level: Level,
-    /// The level that a new object is to have.
+    /// The level that a new object is to have, or that is to become the caller's current one.
     pub new_level: Level,
     /// An object is there already.
     pub taken: bool,
     /// The new object's charge fits into the cell that governs the parent.
     pub fits: bool,
+    /// What the caller holds by write and append may be held so at its new level.
+    pub rises: bool,
     /// The modes that are to be given or rescinded.
     pub modes: Modes,
 }

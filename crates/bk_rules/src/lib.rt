@@ -1,7 +1,7 @@
-//! The answer of each of the nine rules, decided from a record of facts.
+//! The answer of each of the ten rules, decided from a record of facts.
 //!
 //! Model: `specs/Decisions.antt` (`fails`, `answer`, `facts_of`), over what each rule is as a kernel call in `bk_state`;
-//! `specs/Example.antt` (a segment whose answers were worked by hand).
+//! `specs/Example.antt` (callers whose answers were worked by hand).
 //! Calls: `decide`, `refusal`, `mode_of`. (`law_answers`
 //! and `law_example` are empty functions, for their contracts.)
 //! Proved: `refusal` gives the first check of the rule that fails, and `decide` its answer, or yes; over the facts of a state

@@ -34,6 +34,7 @@ const PASSING: RuleFacts = RuleFacts {
     new_level: MIDDLE,
     taken: false,
     fits: true,
+    rises: true,
     modes: Modes::E,
 };
 
@@ -45,6 +46,7 @@ fn answers_yes_no_and_unknown(rt: HostRuntime) {
         (Rule::GetRead, MIDDLE, MIDDLE, LOW, true, Decision::No(3)),
         (Rule::GetRead, MARKED, MIDDLE, LOW, true, Decision::No(2)),
         (Rule::GetRead, LOW, LOW, LOW, false, Decision::Unknown(22)),
+        (Rule::RaiseLevel, LOW, MIDDLE, LOW, false, Decision::Yes),
     ];
     for (rule, f_o, f_s, f_c, named, answer) in rows {
         let facts = RuleFacts {
