@@ -13,3 +13,4 @@ pub mod Stands
 pub mod Sums
 pub mod Deleted
 pub mod Created
+pub mod Rises

@@ -2,6 +2,7 @@ pub mod Entries
 pub mod Holding
 pub mod Changes
 pub mod Cells
+pub mod Rises
 pub mod Words
 pub mod Queues
 pub mod Stored

@@ -6,6 +6,7 @@ pub use Rattle.bk_store.specs.Holding.{holds, modes_held, all_modes, triples_of,
 pub use Rattle.bk_store.specs.Changes.{changed_by, changed_at, with_row, with_given, with_rescinded, without_group, without_one, IsOneLess}
 pub use Rattle.bk_store.specs.Changes.{fresh, IsFreeLine, IsCreated}
 pub use Rattle.bk_store.specs.Cells.{level_number, cell_of, Fits}
+pub use Rattle.bk_store.specs.Rises.{may_rise, may_put}
 pub use Rattle.bk_store.specs.Words.{word_of, word_at, word_written_by, word_written}
 pub use Rattle.bk_store.specs.Queues.{sent, received_from, received, oldest_from, oldest, with_mail, with_queue, with_message}
 pub use Rattle.bk_store.specs.Queues.{without_message, message_of, message_at, message_in, has_place, place_of, place_at, has_place_in, without_first}

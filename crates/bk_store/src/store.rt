@@ -12,7 +12,8 @@ ghost use Rattle.bk_object.specs.Rows as rows;
 ghost use Rattle.bk_path.specs.Paths.{parent};
 ghost use Rattle.bk_state.specs.QueueCalls as queue_calls;
 ghost use Rattle.bk_tree.specs.Kept.{HasBlocks, IsFit};
-ghost use Rattle.bk_store.specs.Stored.{begun, byte_in, cell_of, extent_in, facts_in, has_place_in, level_number, message_in, modes_held, objects_of};
+ghost use Rattle.bk_store.specs.Stored.{begun, byte_in, cell_of, extent_in, facts_in, has_place_in, level_number, may_put, may_rise};
+ghost use Rattle.bk_store.specs.Stored.{message_in, modes_held, objects_of};
 ghost use Rattle.bk_store.specs.Stored.{with_given, with_held, with_message, with_rescinded, with_typed, without_byte, without_group};
 ghost use Rattle.bk_store.specs.Stored.{without_held, without_message, word_at, word_written, Fits, HasDirectory, HasLine, HasMailbox, HasOffset};
 ghost use Rattle.bk_store.specs.Stored.{HasSegment, IsCreated, IsFreeLine, IsOneLess, IsThere};
@@ -235,6 +236,28 @@ impl Store {
         self.levels.get(n)
     }
 
+    /// Whether all that the subject holds by write or by append may be held so at the level with that number too: by write
+    /// what has that level, by append what dominates it (the *-property, ESD-TR-75-69).
+    pub fn may_rise(&self, subject: u8, level: u8) -> bool
+        requires subject { subject < rows.most_subjects }
+        requires level { level < length self.now.levels }
+        ensures { result ≡ may_rise self.now subject level }
+    {
+        self.tree.law_kept();
+        self.tree.law_room();
+        let current = self.levels.at(level);
+        let slots = self.tree.facts(Slot { n: 0 }).quota;
+        let mut from = 0u16;
+        while let Some(slot) = self.access.next_put(subject, from, slots) {
+            let object = self.levels.at(self.tree.facts(slot).level);
+            if !may_put(self.access.modes(subject, slot), current, object) {
+                return false;
+            }
+            from = slot.n + 1;
+        }
+        true
+    }
+
     /// The cell that governs the directory at the path: its own where it has one, else that of its nearest ancestor with
     /// a cell.
     pub fn cell(&self, path: Path) -> Cell
@@ -360,6 +383,14 @@ fn given(mut row: Row, subject: u8, modes: Modes) -> Row
 {
     row.add(subject, modes);
     row
+}
+
+// An object of that level may be held at a current level by those of the modes that put something into it.
+fn may_put(modes: Modes, current: Level, object: Level) -> bool
+    ensures { result ≡ may_put modes current object }
+{
+    (modes.bits() / 4 % 2 == 0 || object == current)
+        && (modes.bits() / 8 % 2 == 0 || object.dominates(current))
 }
 
 // No subject holds the object of the place any more.
