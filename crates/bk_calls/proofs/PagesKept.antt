@@ -8,7 +8,7 @@ use Rattle.bk_state.specs.declared.call.Service.{Service}
 use Rattle.bk_state.specs.declared.call.Service.TheVariants.{Window, Unwindow, Deposit, Send, Receive, LineOut, LineIn, Entry, Identify, Quota}
 use Rattle.bk_state.specs.declared.call.Service.TheVariants.{Pause, SetFaultEntry, Stop}
 use Rattle.bk_state.specs.declared.rule.Rule.{Rule}
-use Rattle.bk_state.specs.declared.rule.Rule.TheVariants.{GetRead, GetAppend, GetExecute, GetWrite, Release, Give, Rescind, Create, DeleteGroup}
+use Rattle.bk_state.specs.declared.rule.Rule.TheVariants.{GetRead, GetAppend, GetExecute, GetWrite, Release, Give, Rescind, Create, DeleteGroup, RaiseLevel}
 use Rattle.bk_state.specs.declared.cause.CallCause.{CallCause}
 use Rattle.bk_object.specs.Rows.{given}
 use Rattle.bk_state.specs.Contents.{with_contents, with_word, put, without_message, without_byte}
@@ -27,7 +27,7 @@ use Rattle.bk_calls.specs.Shown.{answered_changes_pages, call_changes_pages, rul
 use Rattle.bk_calls.proofs.Served.{changed-access}
 
 module _ (caller : Caller) (store : Stored) (words : List ℕ) (general : List ℕ) where
-  -- of the rules one alone changes no page: it leaves what is held
+  -- of the rules two change no page: they leave what is held
   rule-access : (rule : Rule) → rule_changes_pages rule ≡ false → (outcome (seen_by caller store words) caller.subject (ByRule rule) general).access ≡ store.access
   unfolding outcome
   rule-access GetRead h = cc
@@ -39,6 +39,7 @@ module _ (caller : Caller) (store : Stored) (words : List ℕ) (general : List �
   rule-access Rescind h = cc
   rule-access Create h = cc
   rule-access DeleteGroup h = cc
+  rule-access RaiseLevel h = refl
 
   -- and no service changes what is held
   service-access : (service : Service) → (outcome (seen_by caller store words) caller.subject (Other service) general).access ≡ store.access
@@ -89,6 +90,7 @@ rule-windows Give general p = refl
 rule-windows Rescind general p = refl
 rule-windows Create general p = refl
 rule-windows DeleteGroup general p = refl
+rule-windows RaiseLevel general p = refl
 
 call-windows : (call : Call) → call_changes_pages (Some call) ≡ false → (general : List ℕ) (p : Process) → (with_call call general p).windows ≡ p.windows
 call-windows (ByRule rule) h general p = rule-windows rule general p

@@ -21,11 +21,12 @@ use Rattle.bk_state.specs.declared.cause.CallCause.{CallCause}
 use Rattle.bk_state.specs.Answers.{outcome, reply, with_values}
 use Rattle.bk_state.specs.declared.call.Call.TheVariants.{ByRule}
 use Rattle.bk_state.specs.declared.rule.Rule.{Rule}
-use Rattle.bk_state.specs.declared.rule.Rule.TheVariants.{GetRead, GetAppend, GetExecute, GetWrite, Release, Give, Rescind, Create, DeleteGroup}
+use Rattle.bk_state.specs.declared.rule.Rule.TheVariants.{GetRead, GetAppend, GetExecute, GetWrite, Release, Give, Rescind, Create, DeleteGroup, RaiseLevel}
 use Rattle.bk_store.specs.Stored.{Entry, Stored, IsThere, with_held, without_held, with_given, with_rescinded, without_group}
 use Rattle.bk_core.specs.Memory.{kernel_blocks}
 use Rattle.bk_store.specs.Stands.{StandsFor}
 use Rattle.bk_store.proofs.Stands.{stands-held, stands-released, stands-given, stands-rescinded, stands-deleted}
+use Rattle.bk_calls.specs.Decided.{has_path}
 use Rattle.bk_calls.specs.Made.{line_byte, seen_by, made_by, IsMade}
 use Rattle.bk_calls.specs.declared.caller.Caller.{Caller}
 use Rattle.bk_calls.specs.declared.reply.Answer.TheVariants.{Yes}
@@ -50,6 +51,7 @@ changed-lines store v s Give request = lines-by store v request.path (with_row (
 changed-lines store v s Rescind request = lines-by store (without_triples v request.subject request.path request.modes) request.path (with_row (rescinded request.subject request.modes)) (find v request.path)
 changed-lines store v s Create request = refl
 changed-lines store v s DeleteGroup request = refl
+changed-lines store v s RaiseLevel request = refl
 
 -- nor changes what no event changes
 fixed-by : (v : State) (path : Path) (change : Object → Object) (o : Option Object) → (changed_by v path change o).fixed ≡ v.fixed
@@ -67,6 +69,7 @@ changed-fixed v s Give request = fixed-by v request.path (with_row (given reques
 changed-fixed v s Rescind request = fixed-by (without_triples v request.subject request.path request.modes) request.path (with_row (rescinded request.subject request.modes)) (find v request.path)
 changed-fixed v s Create request = refl
 changed-fixed v s DeleteGroup request = refl
+changed-fixed v s RaiseLevel request = refl
 
 -- each of the checks passes
 abbrev pub AllPass : (CallCause → Bool) → List CallCause → Type 0
@@ -91,11 +94,11 @@ module _ (caller : Caller) (store : Stored) (words general : List ℕ) (rule : R
   both_none false false later e = (refl, e)
 
   pub bounds-kept : is_wrong v rule general ≡ false
-  bounds-kept = (both_none (no_path v caller.subject general) (is_wrong v rule general) (refusal v caller.subject rule (request_in general)) (sym (refusal-after v caller.subject general rule) ∙ none)).0
+  bounds-kept = (both_none (no_path v caller.subject general rule) (is_wrong v rule general) (refusal v caller.subject rule (request_in general)) (sym (refusal-after v caller.subject general rule) ∙ none)).0
 
   pub checks-passed : AllPass (fails v caller.subject (rule_call rule) (request_in general)) (rule_checks rule)
   unfolding refusal
-  checks-passed = all-pass (fails v caller.subject (rule_call rule) (request_in general)) (rule_checks rule) (both_none (no_path v caller.subject general) (is_wrong v rule general) (refusal v caller.subject rule (request_in general)) (sym (refusal-after v caller.subject general rule) ∙ none)).1
+  checks-passed = all-pass (fails v caller.subject (rule_call rule) (request_in general)) (rule_checks rule) (both_none (no_path v caller.subject general rule) (is_wrong v rule general) (refusal v caller.subject rule (request_in general)) (sym (refusal-after v caller.subject general rule) ∙ none)).1
 
 -- an object that is there in the state is there in the store
 pub there-seen : (caller : Caller) (store : Stored) (words : List ℕ) (path : Path) → is_none (facts_at (seen_by caller store words) path) ≡ false → IsThere store path
@@ -116,6 +119,7 @@ is_given Give = true
 is_given Rescind = true
 is_given Create = false
 is_given DeleteGroup = false
+is_given RaiseLevel = false
 
 -- what an object has to be there for
 abbrev pub is_of_object : Rule → Bool
@@ -128,6 +132,7 @@ is_of_object Give = true
 is_of_object Rescind = true
 is_of_object Create = false
 is_of_object DeleteGroup = true
+is_of_object RaiseLevel = false
 
 pub object-there : (caller : Caller) (store : Stored) (general : List ℕ) (rule : Rule) (path : Path) → path_in general ≡ path → is_of_object rule ≡ true →
     ((words : List ℕ) → call_refusal (seen_by caller store words) caller.subject (ByRule rule) general ≡ None) → IsThere store path
@@ -143,37 +148,40 @@ object-there caller store general rule path at of none = subst (IsThere store) a
     second Rescind h passed = passed.1.0
     second Create h passed = cc
     second DeleteGroup h passed = passed.1.0
+    second RaiseLevel h passed = cc
 
--- what a rule gives: R0 and R1 are 0, the process changes no further, and no byte goes out
+-- what a rule of an object gives: R0 and R1 are 0, the process changes no further, no byte goes out, and no level is raised
 pub record GivesNothing (rule : Rule) (v : State) (s : ℕ) (request : Request) (process : Process) : Type 0 where
   pub gives : (rule_call rule).gives v s request ≡ 0 ∷ 0 ∷ []
   pub alters : (rule_call rule).alters request process ≡ process
   pub sends : (rule_call rule).sends v request ≡ None
+  pub raises : (rule_call rule).raises request ≡ None
 
-gives-nothing : (rule : Rule) (v : State) (s : ℕ) (request : Request) (process : Process) → GivesNothing rule v s request process
-gives-nothing GetRead v s request process = record { gives = refl; alters = refl; sends = refl }
-gives-nothing GetAppend v s request process = record { gives = refl; alters = refl; sends = refl }
-gives-nothing GetExecute v s request process = record { gives = refl; alters = refl; sends = refl }
-gives-nothing GetWrite v s request process = record { gives = refl; alters = refl; sends = refl }
-gives-nothing Release v s request process = record { gives = refl; alters = refl; sends = refl }
-gives-nothing Give v s request process = record { gives = refl; alters = refl; sends = refl }
-gives-nothing Rescind v s request process = record { gives = refl; alters = refl; sends = refl }
-gives-nothing Create v s request process = record { gives = refl; alters = refl; sends = refl }
-gives-nothing DeleteGroup v s request process = record { gives = refl; alters = refl; sends = refl }
+gives-nothing : (rule : Rule) → has_path rule ≡ true → (v : State) (s : ℕ) (request : Request) (process : Process) → GivesNothing rule v s request process
+gives-nothing GetRead has v s request process = record { gives = refl; alters = refl; sends = refl; raises = refl }
+gives-nothing GetAppend has v s request process = record { gives = refl; alters = refl; sends = refl; raises = refl }
+gives-nothing GetExecute has v s request process = record { gives = refl; alters = refl; sends = refl; raises = refl }
+gives-nothing GetWrite has v s request process = record { gives = refl; alters = refl; sends = refl; raises = refl }
+gives-nothing Release has v s request process = record { gives = refl; alters = refl; sends = refl; raises = refl }
+gives-nothing Give has v s request process = record { gives = refl; alters = refl; sends = refl; raises = refl }
+gives-nothing Rescind has v s request process = record { gives = refl; alters = refl; sends = refl; raises = refl }
+gives-nothing Create has v s request process = record { gives = refl; alters = refl; sends = refl; raises = refl }
+gives-nothing DeleteGroup has v s request process = record { gives = refl; alters = refl; sends = refl; raises = refl }
+gives-nothing RaiseLevel has v s request process = cc
 
 -- a rule that none of its checks refuses, and whose change the store has made
-pub rule-made : (caller : Caller) (store after : Stored) (words words_after : List ℕ) (process process_after : Process) (told : Reply) (rule : Rule) →
+pub rule-made : (caller : Caller) (store after : Stored) (words words_after : List ℕ) (process process_after : Process) (told : Reply) (rule : Rule) → has_path rule ≡ true →
     ((ws : List ℕ) → call_refusal (seen_by caller store ws) caller.subject (ByRule rule) process.registers.general ≡ None) →
     StandsFor after words_after (changed (with_lines store (seen_by caller store words)) caller.subject rule (request_in process.registers.general)) →
-    take (words_of_block * kernel_blocks) words_after ≡ take (words_of_block * kernel_blocks) words → process_after ≡ with_values (0 ∷ 0 ∷ []) process → told ≡ record { answer = Yes; sent = None } →
+    take (words_of_block * kernel_blocks) words_after ≡ take (words_of_block * kernel_blocks) words → process_after ≡ with_values (0 ∷ 0 ∷ []) process → told ≡ record { answer = Yes; sent = None; level = None } →
     IsMade store after words words_after process_after told (made_by caller store words process (ByRule rule))
 unfolding outcome reply changed
-rule-made caller store after words words_after process process_after told rule none stands kernel became is =
+rule-made caller store after words words_after process process_after told rule has none stands kernel became is =
     let v = seen_by caller store words in
     let request = request_in process.registers.general in
     let same = changed-lines store v caller.subject rule request in
     let fixed = changed-fixed (with_lines store v) caller.subject rule request in
-    let nothing = gives-nothing rule v caller.subject request process in
+    let nothing = gives-nothing rule has v caller.subject request process in
     agreed-made caller store words process process_after told (ByRule rule) after words_after (none words) (record {
       objects = stands.objects ∙ ap (λ (x : State). x.objects) same;
       access = stands.access ∙ ap (λ (x : State). x.access) same;
@@ -182,6 +190,7 @@ rule-made caller store after words words_after process process_after told rule n
       process = became ∙ (λ i. with_values (sym nothing.gives i) (sym nothing.alters i));
       answer = ap (λ (r : Reply). r.answer) is;
       sent = ap (λ (r : Reply). r.sent) is ∙ ap (option_map line_byte) (sym nothing.sends);
+      level = ap (λ (r : Reply). r.level) is ∙ sym nothing.raises;
       kernel = kernel;
     })
 
@@ -202,6 +211,7 @@ stands-got caller store words s rule request path modes get at is = subst (λ p.
     by Rescind h = cc
     by Create h = cc
     by DeleteGroup h = cc
+    by RaiseLevel h = cc
 
 -- the subject in R4 is one of those that are there
 pub subject-there : (caller : Caller) (store : Stored) (general : List ℕ) (rule : Rule) → is_given rule ≡ true →
@@ -222,6 +232,7 @@ subject-there caller store general rule of none = subst (λ n. slice_index gener
     by Rescind h kept = below (is_outside 1 15 (slice_index general 3)) (length (seen_by caller store []).fixed.subjects) (slice_index general 4) kept
     by Create h kept = cc
     by DeleteGroup h kept = cc
+    by RaiseLevel h kept = cc
 
 -- what is deleted isn't root
 pub not-root : (caller : Caller) (store : Stored) (general : List ℕ) (path : Path) → path_in general ≡ path →

@@ -1,20 +1,23 @@
 -- What a call sees of a store: its facts, what is held and named, and the levels of the caller.
-use Rattle.std.proofs.Common.{◌≡◌, ℕ, ◌<◌, Bool, true, false, ◌&&◌, ◌||◌, List, [], ◌∷◌, length, Option, Some, None, refl, sym, ap, ◌∙◌, replicate}
+use Rattle.std.proofs.Common.{◌≡◌, ℕ, ◌<◌, Bool, true, false, ◌&&◌, ◌||◌, ◌==◌, not, List, [], ◌∷◌, length, Option, Some, None, refl, sym, ap, ◌∙◌, replicate}
 use Rattle.std.specs.Prelude.{◌+◌, nat_le, option_map}
 use Rattle.std.specs.FinMap as finite
-use Rattle.std.specs.List.{list_any}
+use Rattle.std.specs.FinSet as set
+use Rattle.std.specs.List.{list_all, list_any}
 use Rattle.std.proofs.lemmas.List.{get_or-replicate, length-replicate}
+use Rattle.bk_level.specs.Levels.{level_at}
 use Rattle.bk_object.specs.Kinds.{is_directory}
 use Rattle.bk_object.specs.Modes.{Read, Write}
 use Rattle.bk_path.specs.Paths.{Path, is_root, parent}
 use Rattle.bk_quota.specs.Charges.{passes, charge_of}
 use Rattle.bk_quota.specs.Usage.{Usage}
+use Rattle.bk_state.specs.Allowed.{is_star_of_putting, may_rise}
 use Rattle.bk_state.specs.Named.{is_named}
 use Rattle.bk_state.specs.State.{State, Object, find, facts_at, clearance_of}
 use Rattle.bk_state.specs.Request.{Request, new_facts}
 use Rattle.bk_state.specs.KernelCall.{has_room}
 use Rattle.bk_state.specs.Quota.{level_number}
-use Rattle.bk_store.specs.Stored.{Entry, Stored, HasDirectory, object_of, facts_in, holds, cell_of, level_number as level_in_store}
+use Rattle.bk_store.specs.Stored.{Entry, Stored, HasDirectory, object_of, facts_in, holds, cell_of, level_number as level_in_store, may_rise as may_rise_in_store}
 use Rattle.bk_store.specs.Stands.{StandsFor}
 use Rattle.bk_store.proofs.Stands.{get-objects_of, stands-cell, stands-level}
 use Rattle.bk_calls.specs.declared.caller.Caller.{Caller}
@@ -33,11 +36,17 @@ module _ (caller : Caller) (store : Stored) (words : List ℕ) where
   facts-seen path = ap (option_map (λ (x : Object). x.facts)) (found-seen path) ∙ facts-object words (finite.get store.objects path)
 
   pub subjects-seen : length (seen_by caller store words).fixed.subjects ≡ caller.subjects
-  subjects-seen = length-replicate caller.subjects (record { greatest = caller.f_s; current = caller.f_c })
+  subjects-seen = length-replicate caller.subjects caller.f_s
 
   -- each subject's levels stand as the caller's
   pub clearance-seen : (s : ℕ) → s < caller.subjects → clearance_of (seen_by caller store words) s ≡ record { greatest = caller.f_s; current = caller.f_c }
-  clearance-seen s below = get_or-replicate caller.subjects s (record { greatest = caller.f_s; current = caller.f_c }) (record { greatest = 0; current = 0 }) below
+  clearance-seen s below = λ i. record { greatest = get_or-replicate caller.subjects s caller.f_s 0 below i; current = get_or-replicate caller.subjects s caller.f_c 0 below i }
+
+  -- and what a subject holds lets it rise where the store says so
+  pub rises-seen : (s level : ℕ) → may_rise (seen_by caller store words) s level ≡ may_rise_in_store store s level
+  rises-seen s level = λ i. list_all
+      (λ t. not (t.0 == s) || passes (λ facts. is_star_of_putting t.2 (level_at store.levels level) (level_at store.levels facts.level)) (facts-seen t.1 i))
+      (set.items store.access)
 
   -- who may name what is a child of another
   pub named-child : (s : ℕ) (path above : Path) → (path ≡ [] → ⊥) → above ≡ parent path →

@@ -105,7 +105,7 @@ module _ (caller : Caller) (store : Stored) (words : List ℕ) where
     -- a refused call, after which the objects stand as before
     pub refused-after : (after : Stored) (cause : CallCause) → objects_of after words ≡ objects_of store words → after.access ≡ store.access → after.levels ≡ store.levels → after.lines ≡ store.lines →
         call_refusal (seen_by caller store words) caller.subject call process.registers.general ≡ Some cause →
-        process_after ≡ with_values (answer_number cause ∷ cause_number cause ∷ []) process → reply ≡ record { answer = answer_of (Some cause); sent = None } →
+        process_after ≡ with_values (answer_number cause ∷ cause_number cause ∷ []) process → reply ≡ record { answer = answer_of (Some cause); sent = None; level = None } →
         IsMade store after words words process_after reply (made_by caller store words process call)
     refused-after after cause objects access levels lines refusal became told =
         subst (λ o. IsMade store after words words process_after reply (answered_by (seen_by caller store words) caller.subject process call o)) (sym refusal) (record {
@@ -116,11 +116,12 @@ module _ (caller : Caller) (store : Stored) (words : List ℕ) where
           process = became;
           answer = ap (λ (r : Reply). r.answer) told;
           sent = ap (λ (r : Reply). r.sent) told;
+          level = ap (λ (r : Reply). r.level) told;
           kernel = refl;
         })
 
     pub refused-made : (cause : CallCause) → call_refusal (seen_by caller store words) caller.subject call process.registers.general ≡ Some cause →
-        process_after ≡ with_values (answer_number cause ∷ cause_number cause ∷ []) process → reply ≡ record { answer = answer_of (Some cause); sent = None } →
+        process_after ≡ with_values (answer_number cause ∷ cause_number cause ∷ []) process → reply ≡ record { answer = answer_of (Some cause); sent = None; level = None } →
         IsMade store store words words process_after reply (made_by caller store words process call)
     refused-made cause = refused-after store cause refl refl refl refl
 
@@ -145,7 +146,7 @@ module _ (caller : Caller) (store : Stored) (words : List ℕ) where
   -- a service whose object isn't reached
   pub refused-reach : (process process_after : Process) (reply : Reply) (service : Service) (r : Result Reached CallCause) (cause : CallCause) → is_of_object service ≡ true →
       Reaches caller store service process.registers.general r → r ≡ Err cause →
-      process_after ≡ with_values (answer_number cause ∷ cause_number cause ∷ []) process → reply ≡ record { answer = answer_of (Some cause); sent = None } →
+      process_after ≡ with_values (answer_number cause ∷ cause_number cause ∷ []) process → reply ≡ record { answer = answer_of (Some cause); sent = None; level = None } →
       IsMade store store words words process_after reply (made_by caller store words process (Other service))
   refused-reach process process_after reply service r cause h reaches is =
       refused-made process process_after reply (Other service) cause (refused-early service process.registers.general cause h (told service process.registers.general r cause reaches is))

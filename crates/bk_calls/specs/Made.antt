@@ -30,11 +30,12 @@ abbrev pub seen_by : Caller → Stored → (words : List ℕ) → State
 seen_by caller store words = record {
   fixed = record {
     levels = store.levels;
-    subjects = replicate caller.subjects (record { greatest = caller.f_s; current = caller.f_c });
+    subjects = replicate caller.subjects caller.f_s;
     lines = [];
     turns = 0;
     schedule = [];
   };
+  current = replicate caller.subjects caller.f_c;
   objects = objects_of store words;
   access = store.access;
   processes = [];
@@ -49,7 +50,8 @@ answer_of (Some cause) = if is_no cause then No (cause_number cause) else Unknow
 abbrev pub line_byte : ℕ × ℕ → LineByte
 line_byte sent = record { line = sent.0; byte = sent.1 }
 
--- what was made of store, words and process, and the reply, are what the call comes to; the kernel's blocks stay
+-- what was made of store, words and process, and the reply, are what the call comes to, and the level that the caller rises to is
+-- told; the kernel's blocks stay
 pub record IsMade (before after : Stored) (words_before words_after : List ℕ) (process_after : Process) (reply : Reply) (x : Called) : Type 0 where
   pub objects : objects_of after words_after ≡ x.objects
   pub access : after.access ≡ x.access
@@ -58,6 +60,7 @@ pub record IsMade (before after : Stored) (words_before words_after : List ℕ) 
   pub process : process_after ≡ x.process
   pub answer : reply.answer ≡ answer_of x.cause
   pub sent : reply.sent ≡ option_map line_byte x.sent
+  pub level : reply.level ≡ x.raised
   pub kernel : take (words_of_block * kernel_blocks) words_after ≡ take (words_of_block * kernel_blocks) words_before
 
 -- what a call by the caller comes to

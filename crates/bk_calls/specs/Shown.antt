@@ -8,13 +8,13 @@ use Rattle.bk_state.specs.declared.call.Service.{Service}
 use Rattle.bk_state.specs.declared.call.Service.TheVariants.{Window, Unwindow, Deposit, Send, Receive, LineOut, LineIn, Entry, Identify, Quota}
 use Rattle.bk_state.specs.declared.call.Service.TheVariants.{Pause, SetFaultEntry, Stop}
 use Rattle.bk_state.specs.declared.rule.Rule.{Rule}
-use Rattle.bk_state.specs.declared.rule.Rule.TheVariants.{GetRead, GetAppend, GetExecute, GetWrite, Release, Give, Rescind, Create, DeleteGroup}
+use Rattle.bk_state.specs.declared.rule.Rule.TheVariants.{GetRead, GetAppend, GetExecute, GetWrite, Release, Give, Rescind, Create, DeleteGroup, RaiseLevel}
 use Rattle.bk_state.specs.Calls.{call_of}
 use Rattle.bk_store.specs.Stored.{Stored, extent_in}
 use Rattle.bk_calls.specs.declared.reply.Answer.{Answer}
 use Rattle.bk_calls.specs.declared.reply.Answer.TheVariants.{Yes, No, Unknown}
 
--- a rule changes what is held, or where a segment stands
+-- a rule changes what is held, or where a segment stands; a row and a level are no part of what pages are made of
 abbrev pub rule_changes_pages : Rule → Bool
 rule_changes_pages GetRead = true
 rule_changes_pages GetAppend = true
@@ -25,6 +25,7 @@ rule_changes_pages Give = false
 rule_changes_pages Rescind = true
 rule_changes_pages Create = true
 rule_changes_pages DeleteGroup = true
+rule_changes_pages RaiseLevel = false
 
 -- a service changes what a window shows
 abbrev pub service_changes_pages : Service → Bool

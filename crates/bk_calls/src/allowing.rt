@@ -1,9 +1,9 @@
-// The checks that the nine rules have in common: the path, the arguments, and those that the rule decides.
+// The checks that the rules of an object have in common: the path, the arguments, and those that the rule decides.
 
-ghost use Rattle.std.specs.Prelude.{◌≡◌, ◌<◌, ℕ, List, length, slice_index};
+ghost use Rattle.std.specs.Prelude.{◌≡◌, ◌<◌, ℕ, List, IsTrue, length, slice_index};
 ghost use Rattle.bk_state.specs.Calls as model;
 ghost use Rattle.bk_state.specs.Request.{path_in, request_in};
-ghost use Rattle.bk_calls.specs.Decided.{Allows};
+ghost use Rattle.bk_calls.specs.Decided.{has_path, Allows};
 ghost use Rattle.bk_calls.specs.Made.{seen_by, IsCaller};
 
 use crate::asking::{modes_of, path_of};
@@ -25,6 +25,7 @@ pub(crate) fn allowed(
     rule: Rule,
     is_wrong: bool,
 ) -> Result<Path, CallCause>
+    requires path { IsTrue (has_path rule) }
     requires caller { IsCaller caller.now store.now }
     requires argument { (words : List ℕ) → (model.rule_call rule).is_wrong (seen_by caller.now store.now words) (request_in process.now.registers.general) ≡ is_wrong }
     ensures { Allows caller.now store.now rule process.now.registers.general result }
@@ -49,6 +50,7 @@ fn decided(
     path: Path,
     rule: Rule,
 ) -> Option<CallCause>
+    requires of_object { IsTrue (has_path rule) }
     requires caller { IsCaller caller.now store.now }
     requires path { path_in process.now.registers.general ≡ path }
     requires level { rule ≡ Rule.Create → slice_index process.now.registers.general 4 < length store.now.levels }

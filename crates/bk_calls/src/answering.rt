@@ -12,13 +12,14 @@ use bk_state::CallCause;
 // The caller finds the answer in R0 and the cause in R1, and nothing else changes.
 pub(crate) fn refuse(process: &mut Process, cause: CallCause) -> Reply
     ensures process { process.new ≡ with_values (answer_number cause ∷ cause_number cause ∷ []) process.old }
-    ensures reply { result ≡ record { answer = answer_of (Some cause); sent = None } }
+    ensures reply { result ≡ record { answer = answer_of (Some cause); sent = None; level = None } }
 {
     let values = [u16::from(cause.answer()), u16::from(cause.number())];
     set_values(process, &values);
     Reply {
         answer: answer_for(cause),
         sent: None,
+        level: None,
     }
 }
 
@@ -37,12 +38,13 @@ fn answer_for(cause: CallCause) -> Answer
 pub(crate) fn agree(process: &mut Process, values: &[u16]) -> Reply
     requires { length values.now ≤ 6 }
     ensures process { process.new ≡ with_values values.now process.old }
-    ensures reply { result ≡ record { answer = Answer.Yes; sent = None } }
+    ensures reply { result ≡ record { answer = Answer.Yes; sent = None; level = None } }
 {
     set_values(process, values);
     Reply {
         answer: Answer::Yes,
         sent: None,
+        level: None,
     }
 }
 

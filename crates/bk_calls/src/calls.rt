@@ -10,6 +10,7 @@ ghost use Rattle.bk_calls.specs.Shown.{KeepsPages, SameExtents};
 use crate::access_calls::{get, release};
 use crate::answering::refuse;
 use crate::caller::Caller;
+use crate::level_calls::raise_level;
 use crate::process_calls::{pause, set_fault_entry, stop};
 use crate::queue_calls::{line_in, line_out, receive, send};
 use crate::reply::{Answer, Reply};
@@ -60,13 +61,13 @@ fn changes_on_yes(call: Option<Call>) -> bool
     ensures { result ≡ shown.call_changes_pages call }
 {
     match call {
-        Some(Call::ByRule(rule)) => !matches!(rule, Rule::Give),
+        Some(Call::ByRule(rule)) => !matches!(rule, Rule::Give | Rule::RaiseLevel),
         Some(Call::Other(service)) => matches!(service, Service::Window | Service::Unwindow),
         None => false,
     }
 }
 
-// The call with the number: None for 0 and from 27 (octal) on.
+// The call with the number: None for 0 and from 30 (octal) on.
 fn call_of(number: u8) -> Option<Call>
     ensures { result ≡ model.call_of number }
 {
@@ -93,11 +94,12 @@ fn call_of(number: u8) -> Option<Call>
         0o24 => Some(Call::Other(Service::Pause)),
         0o25 => Some(Call::Other(Service::SetFaultEntry)),
         0o26 => Some(Call::Other(Service::Stop)),
+        0o27 => Some(Call::ByRule(Rule::RaiseLevel)),
         _ => None,
     }
 }
 
-// A call of one of the nine rules.
+// A call of one of the ten rules.
 fn decide_rule(
     store: &mut Store,
     core: &mut Core,
@@ -118,6 +120,7 @@ fn decide_rule(
         Rule::Rescind => rescind(store, process, caller),
         Rule::Create => create(store, core, process, caller),
         Rule::DeleteGroup => delete_group(store, process, caller),
+        Rule::RaiseLevel => raise_level(store, process, caller),
     }
 }
 

@@ -5,6 +5,7 @@ ghost use Rattle.bk_level.specs.Levels.{level_at, lowest};
 ghost use Rattle.bk_object.specs.Modes.{no_modes};
 ghost use Rattle.bk_object.specs.Rows.{in_row, most_subjects};
 ghost use Rattle.bk_state.specs.Request.{Request};
+ghost use Rattle.bk_state.specs.declared.rule.Rule.{Rule};
 ghost use Rattle.bk_calls.specs.Decided.{facts_there};
 ghost use Rattle.bk_calls.specs.Made.{seen_by, IsCaller};
 
@@ -17,11 +18,12 @@ use bk_path::Path;
 use bk_rules::RuleFacts;
 use bk_store::Store;
 
-/// What every rule but create looks at, for the object at the path and these modes; of a new object nothing is said.
+/// What every rule of an object that is there looks at, for the object at the path and these modes; of a new object, and of a
+/// level to rise to, nothing is said.
 pub(crate) fn facts_there(store: &Store, caller: &Caller, path: Path, modes: Modes) -> RuleFacts
     requires { IsCaller caller.now store.now }
-    ensures { (words : List ℕ) (request : Request) → request.path ≡ path → request.modes ≡ modes →
-        result ≡ facts_there (seen_by caller.now store.now words) caller.now.subject request }
+    ensures { (words : List ℕ) (rule : Rule) (request : Request) → request.path ≡ path → request.modes ≡ modes →
+        result ≡ facts_there (seen_by caller.now store.now words) caller.now.subject rule request }
 {
     let object = store.facts(path);
     RuleFacts {
@@ -38,6 +40,7 @@ pub(crate) fn facts_there(store: &Store, caller: &Caller, path: Path, modes: Mod
         new_level: Level::lowest(),
         taken: object.is_some(),
         fits: false,
+        rises: false,
         modes,
     }
 }

@@ -6,7 +6,7 @@
 //! each call.
 //! Calls: `call`, `changes_pages`.
 //! Proved: a call makes exactly what the definition of its number gives: the first check that fails and its answer, or the
-//! change of objects, accesses and process, the values in the registers, and the byte sent; core below block 64 stays. Where
+//! change of objects, accesses, level and process, the values in the registers, and the byte sent; core below block 64 stays. Where
 //! `changes_pages` is false, the extents, what is held and the caller's windows stay.
 //! Tested: in `bk_suite`, worked calls, whose values the definitions give and no clause spells out, one after another on one store.
 //! Neither: nothing.
@@ -20,6 +20,7 @@ mod asking;
 mod caller;
 mod calls;
 mod facts;
+mod level_calls;
 mod new_object;
 mod process_calls;
 mod queue_calls;

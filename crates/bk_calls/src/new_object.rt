@@ -30,7 +30,7 @@ pub(crate) fn facts_of_new(
     requires caller { IsCaller caller.now store.now }
     requires path { model.path_in process.now.registers.general ≡ path }
     requires level { slice_index process.now.registers.general 4 < length store.now.levels }
-    ensures { (words : List ℕ) → refusal_by result Rule.Create ≡ refusal_by (facts_of (seen_by caller.now store.now words) caller.now.subject (model.request_in process.now.registers.general)) Rule.Create }
+    ensures { (words : List ℕ) → refusal_by result Rule.Create ≡ refusal_by (facts_of (seen_by caller.now store.now words) caller.now.subject Rule.Create (model.request_in process.now.registers.general)) Rule.Create }
 {
     store.law_levels();
     let above = path.above();

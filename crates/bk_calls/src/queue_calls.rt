@@ -82,8 +82,8 @@ pub(crate) fn line_out(store: &Store, process: &mut Process, caller: &Caller) ->
             let byte = (process.registers.general[3] % 256) as u8;
             let reply = agree(process, &[0, 0]);
             Reply {
-                answer: reply.answer,
                 sent: sent_on(reached.facts.kind, byte),
+                ..reply
             }
         }
     }

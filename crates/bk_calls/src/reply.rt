@@ -1,4 +1,4 @@
-/// The answer to a call: yes; no, with a cause of 1 to 11; or `?`, with a cause of 20 to 25.
+/// The answer to a call: yes; no, with a cause of 1 to 12; or `?`, with a cause of 20 to 25.
 #[derive(Clone, Copy, PartialEq, Eq, Debug)]
 pub enum Answer {
     Yes,
@@ -13,9 +13,11 @@ pub struct LineByte {
     pub byte: u8,
 }
 
-/// What a call gives besides what it changes: the answer, and the byte of a line out that is answered yes.
+/// What a call gives besides what it changes: the answer; the byte of a line out that is answered yes; and the number of the
+/// level that a raise which is answered yes makes the caller's current one.
 #[derive(Clone, Copy, PartialEq, Eq, Debug)]
 pub struct Reply {
     pub answer: Answer,
     pub sent: Option<LineByte>,
+    pub level: Option<u8>,
 }

@@ -5,7 +5,7 @@ use Rattle.bk_calls.proofs.allowing.allowed.Goals as goal
 
 pub returns-in_default : goal.returns-in_default
 returns-in_default c = λ words.
-    no-path (seen_by c.args.caller.now c.args.store.now words) c.args.caller.now.subject c.args.process.now.registers.general c.args.rule (sym c.in_default.is ∙ c.path_of.ensures.value)
+    no-path (seen_by c.args.caller.now c.args.store.now words) c.args.caller.now.subject c.args.process.now.registers.general c.args.rule c.requires.path (sym c.in_default.is ∙ c.path_of.ensures.value)
 
 pub returns-then-is_wrong : goal.returns-then-is_wrong
 returns-then-is_wrong c = λ words.

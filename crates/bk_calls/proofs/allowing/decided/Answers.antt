@@ -4,7 +4,7 @@ use Rattle.bk_rules.proofs.AnswersAgree.{answers_agree}
 use Rattle.bk_state.specs.Calls.{refusal}
 use Rattle.bk_state.specs.Request.{request_in}
 use Rattle.bk_state.specs.declared.rule.Rule.{Rule}
-use Rattle.bk_state.specs.declared.rule.Rule.TheVariants.{GetRead, GetAppend, GetExecute, GetWrite, Release, Give, Rescind, Create, DeleteGroup}
+use Rattle.bk_state.specs.declared.rule.Rule.TheVariants.{GetRead, GetAppend, GetExecute, GetWrite, Release, Give, Rescind, Create, DeleteGroup, RaiseLevel}
 use Rattle.bk_calls.specs.Made.{seen_by}
 use Rattle.bk_calls.proofs.RuleChecks.{is_create, there-enough}
 use Rattle.bk_calls.proofs.allowing.decided.Goals as goal
@@ -27,11 +27,12 @@ no_create Give h = refl
 no_create Rescind h = refl
 no_create Create h = absurd (h refl)
 no_create DeleteGroup h = refl
+no_create RaiseLevel h = refl
 
 pub returns-in_default : goal.returns-in_default
 returns-in_default c = λ words.
     let v = seen_by c.args.caller.now c.args.store.now words in
     let request = request_in c.args.process.now.registers.general in
-    c.refusal-in_default.ensures.first ∙ ap (λ facts. refusal_by facts c.args.rule) (c.facts_there.ensures words request c.requires.path (sym c.modes_of.ensures))
-    ∙ there-enough v c.args.caller.now.subject c.args.rule request (no_create c.args.rule c.in_default.not-Create)
+    c.refusal-in_default.ensures.first ∙ ap (λ facts. refusal_by facts c.args.rule) (c.facts_there.ensures words c.args.rule request c.requires.path (sym c.modes_of.ensures))
+    ∙ there-enough v c.args.caller.now.subject c.args.rule request c.requires.of_object (no_create c.args.rule c.in_default.not-Create)
     ∙ answers_agree v c.args.caller.now.subject c.args.rule request

@@ -37,6 +37,7 @@ returns-in-None-clause-made c =
       process = c.refuse.ensures.process;
       answer = ap (λ (r : Reply). r.answer) c.refuse.ensures.reply;
       sent = ap (λ (r : Reply). r.sent) c.refuse.ensures.reply;
+      level = ap (λ (r : Reply). r.level) c.refuse.ensures.reply;
       kernel = refl;
     })
 

@@ -1,4 +1,4 @@
-use Rattle.std.proofs.Common.{ap, subst, sym}
+use Rattle.std.proofs.Common.{ap, refl, subst, sym}
 use Rattle.bk_state.specs.declared.call.Call.TheVariants.{ByRule}
 use Rattle.bk_calls.specs.Made.{made_by, IsMade}
 use Rattle.bk_calls.specs.Shown.{rule_changes_pages}
@@ -20,6 +20,9 @@ returns-in-Rescind-clause-made c = subst (λ r. IsMade c.args.store.now c.rescin
 pub returns-in-DeleteGroup-clause-made : goal.returns-in-DeleteGroup-clause-made
 returns-in-DeleteGroup-clause-made c = subst (λ r. IsMade c.args.store.now c.delete_group.new.store c.args.core.now.words c.args.core.now.words c.delete_group.new.process c.delete_group.result (made_by c.args.caller.now c.args.store.now c.args.core.now.words c.args.process.now (ByRule r))) (sym c.in-DeleteGroup.is) (c.delete_group.ensures.made c.args.core.now.words)
 
+pub returns-in-RaiseLevel-clause-made : goal.returns-in-RaiseLevel-clause-made
+returns-in-RaiseLevel-clause-made c = subst (λ r. IsMade c.args.store.now c.args.store.now c.args.core.now.words c.args.core.now.words c.raise_level.new.process c.raise_level.result (made_by c.args.caller.now c.args.store.now c.args.core.now.words c.args.process.now (ByRule r))) (sym c.in-RaiseLevel.is) (c.raise_level.ensures c.args.core.now.words)
+
 pub returns-in-GetRead-clause-extents : goal.returns-in-GetRead-clause-extents
 returns-in-GetRead-clause-extents c = λ none. c.get.ensures.extents
 
@@ -37,3 +40,6 @@ returns-in-Create-clause-extents c = λ none. c.create.ensures.extents (unless-y
 
 pub returns-in-DeleteGroup-clause-extents : goal.returns-in-DeleteGroup-clause-extents
 returns-in-DeleteGroup-clause-extents c = λ none. c.delete_group.ensures.extents (unless-yes c.args.rule c.delete_group.result.answer (ap rule_changes_pages c.in-DeleteGroup.is) none)
+
+pub returns-in-RaiseLevel-clause-extents : goal.returns-in-RaiseLevel-clause-extents
+returns-in-RaiseLevel-clause-extents c = λ none path. refl

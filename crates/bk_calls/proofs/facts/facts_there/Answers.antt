@@ -15,7 +15,7 @@ use Rattle.bk_calls.proofs.Seen.{facts-seen, clearance-seen}
 use Rattle.bk_calls.proofs.facts.facts_there.Goals as goal
 
 pub returns : goal.returns
-returns c = λ words request at modes.
+returns c = λ words rule request at modes.
     let store = c.args.store.now in
     let caller = c.args.caller.now in
     let object : c.facts-object.result ≡ facts_at (seen_by caller store words) request.path = c.facts-object.ensures ∙ sym (facts-seen caller store words c.args.path) ∙ ap (facts_at (seen_by caller store words)) (sym at) in
@@ -34,5 +34,6 @@ returns c = λ words request at modes.
       new_level = c.lowest-2.ensures i;
       taken = (c.is_some-2.ensures ∙ ap (λ (o : Option Facts). is_some o) object) i;
       fits = false;
+      rises = false;
       modes = sym modes i;
     }

@@ -20,10 +20,10 @@ returns c = λ words.
     let caller = c.args.caller.now in
     let v = seen_by caller store words in
     let request = request_in c.args.process.now.registers.general in
-    let there : c.facts_there-facts.result ≡ facts_there v caller.subject request = c.facts_there-facts.ensures words request c.requires.path (sym c.modes_of.ensures) in
+    let there : c.facts_there-facts.result ≡ facts_there v caller.subject Create request = c.facts_there-facts.ensures words Create request c.requires.path (sym c.modes_of.ensures) in
     let above : c.above-above.result ≡ parent request.path = c.above-above.ensures ∙ ap parent (sym c.requires.path) in
     let parent_facts : c.facts.result ≡ facts_at v (parent request.path) = c.facts.ensures ∙ ap (facts_in store) above ∙ sym (facts-seen caller store words (parent request.path)) in
     let level : c.level_of-facts.result ≡ level_or_lowest v (facts_at v (parent request.path)) = c.level_of-facts.ensures ∙ ap (λ (o : Option Facts). unwrap_or (option_map (λ facts. level_at store.levels facts.level) o) lowest) parent_facts in
     (λ i. refusal_by (record (there i) { parent_level = level i; new_level = c.level_at-facts.ensures i; fits = c.has_room.result }) Create)
-    ∙ only-fits (facts_of v caller.subject request) c.has_room.result (λ named below.
+    ∙ only-fits (facts_of v caller.subject Create request) c.has_room.result (λ named below.
     c.has_room.ensures (subst (λ p. HasDirectory store p) (sym above) (named-below caller store words caller.subject request.path named below)) caller words (sym above))

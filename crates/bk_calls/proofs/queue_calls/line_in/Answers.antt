@@ -49,6 +49,7 @@ returns-in-Some-clause-made c = λ words.
       process = c.agree.ensures.process ∙ ap (λ n. with_values (0 ∷ 0 ∷ n ∷ []) c.args.process.now) c.from.ensures ∙ ap (λ values. with_values values c.args.process.now) (sym (ap (λ p. of_contents byte_values (find (seen_by c.args.caller.now c.args.store.now words) p)) here.path ∙ told));
       answer = ap (λ (r : Reply). r.answer) c.agree.ensures.reply;
       sent = ap (λ (r : Reply). r.sent) c.agree.ensures.reply;
+      level = ap (λ (r : Reply). r.level) c.agree.ensures.reply;
       kernel = refl;
     })
 

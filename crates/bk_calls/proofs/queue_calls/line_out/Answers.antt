@@ -19,7 +19,7 @@ unfolding outcome reply
 returns-in-Ok c = λ words.
     let general = c.args.process.now.registers.general in
     let here = found c.args.caller.now c.args.store.now words LineOut general c.reach.result c.in-Ok.reached (c.reach.ensures.reached LineOut (record { wrong = λ v. refl; modes = refl; sort = λ kind. refl; needs = refl })) c.in-Ok.is in
-    agreed-made c.args.caller.now c.args.store.now words c.args.process.now c.agree-reply.new.process (record { answer = c.agree-reply.result.answer; sent = c.sent_on.result }) (Other LineOut) c.args.store.now words
+    agreed-made c.args.caller.now c.args.store.now words c.args.process.now c.agree-reply.new.process (record c.agree-reply.result { sent = c.sent_on.result }) (Other LineOut) c.args.store.now words
     (decided c.args.caller.now c.args.store.now words LineOut general c.reach.result c.in-Ok.reached refl (c.reach.ensures.reached LineOut (record { wrong = λ v. refl; modes = refl; sort = λ kind. refl; needs = refl })) c.in-Ok.is)
     (record {
       objects = refl;
@@ -29,5 +29,6 @@ returns-in-Ok c = λ words.
       process = c.agree-reply.ensures.process;
       answer = ap (λ (r : Reply). r.answer) c.agree-reply.ensures.reply;
       sent = c.sent_on.ensures ∙ sym (ap (λ p. option_map line_byte (byte_on (slice_index general 3 % 256) (find (seen_by c.args.caller.now c.args.store.now words) p))) here.path ∙ sent-seen c.args.caller.now c.args.store.now words c.in-Ok.reached.path c.in-Ok.reached.facts here.facts (slice_index general 3 % 256));
+      level = ap (λ (r : Reply). r.level) c.agree-reply.ensures.reply;
       kernel = refl;
     })

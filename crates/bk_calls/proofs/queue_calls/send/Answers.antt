@@ -39,6 +39,7 @@ returns-in-Ok-clause-made c = λ words.
       process = c.agree.ensures.process;
       answer = ap (λ (r : Reply). r.answer) c.agree.ensures.reply;
       sent = ap (λ (r : Reply). r.sent) c.agree.ensures.reply;
+      level = ap (λ (r : Reply). r.level) c.agree.ensures.reply;
       kernel = refl;
     })
 

@@ -30,7 +30,7 @@ returns-in-Ok-clause-made c = λ words.
     let store = c.args.store.now in
     let caller = c.args.caller.now in
     let request = request_in c.args.process.now.registers.general in
-    rule-made caller store c.rescind.new.self words words c.args.process.now c.agree.new.process c.agree.result Rescind c.in-Ok.ensures.1
+    rule-made caller store c.rescind.new.self words words c.args.process.now c.agree.new.process c.agree.result Rescind refl c.in-Ok.ensures.1
     (subst (λ (x : Stored). StandsFor x words (changed (with_lines store (seen_by caller store words)) caller.subject Rescind request)) (sym c.rescind.ensures)
     (stands-withdrawn caller store words caller.subject request c.in-Ok.path c.in-Ok.ensures.0 (slice_index c.args.process.now.registers.general 4) c.modes_of.result refl c.modes_of.ensures))
     refl c.agree.ensures.process c.agree.ensures.reply

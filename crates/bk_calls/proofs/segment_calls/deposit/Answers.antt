@@ -43,6 +43,7 @@ returns-then-offset-from c =
       process = c.agree.ensures.process;
       answer = ap (λ (r : Reply). r.answer) c.agree.ensures.reply;
       sent = ap (λ (r : Reply). r.sent) c.agree.ensures.reply;
+      level = ap (λ (r : Reply). r.level) c.agree.ensures.reply;
       kernel = c.write_word.ensures.kernel;
     })
 

@@ -25,5 +25,6 @@ returns-in-Ok c = λ words.
       process = c.agree.ensures.process ∙ ap (with_values (0 ∷ 0 ∷ [])) (c.set_window.ensures ∙ ap (λ (p : Path). record c.args.process.now { windows = slice_set c.args.process.now.windows (slice_index general 3) (Some p) }) (sym here.path));
       answer = ap (λ (r : Reply). r.answer) c.agree.ensures.reply;
       sent = ap (λ (r : Reply). r.sent) c.agree.ensures.reply;
+      level = ap (λ (r : Reply). r.level) c.agree.ensures.reply;
       kernel = refl;
     })

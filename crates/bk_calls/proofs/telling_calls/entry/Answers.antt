@@ -36,6 +36,7 @@ returns-in-Some c = λ words.
           ∙ (λ i. entry_values (seen_by c.args.caller.now c.args.store.now words) c.args.caller.now.subject ((child ∙ ap (λ p. slice_index general 3 ∷ p) (sym here.path)) i) (sym there i)));
       answer = ap (λ (r : Reply). r.answer) c.agree.ensures.reply;
       sent = ap (λ (r : Reply). r.sent) c.agree.ensures.reply;
+      level = ap (λ (r : Reply). r.level) c.agree.ensures.reply;
       kernel = refl;
     })
 

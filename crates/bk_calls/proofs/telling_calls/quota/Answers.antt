@@ -35,5 +35,6 @@ returns-in-Ok c = λ words.
       process = c.agree.ensures.process ∙ (λ i. with_values (0 ∷ 0 ∷ c.limit.ensures i ∷ c.used.ensures i ∷ []) c.args.process.now) ∙ ap (λ (u : Usage). with_values (0 ∷ 0 ∷ u.limit ∷ u.used ∷ []) c.args.process.now) cell;
       answer = ap (λ (r : Reply). r.answer) c.agree.ensures.reply;
       sent = ap (λ (r : Reply). r.sent) c.agree.ensures.reply;
+      level = ap (λ (r : Reply). r.level) c.agree.ensures.reply;
       kernel = refl;
     })

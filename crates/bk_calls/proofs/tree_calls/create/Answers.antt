@@ -1,4 +1,4 @@
-use Rattle.std.proofs.Common.{◌≡◌, ◌<◌, ◌≤◌, ◌∙◌, false, [], length, sym, ap, subst, arith, is_some}
+use Rattle.std.proofs.Common.{◌≡◌, ◌<◌, ◌≤◌, ◌∙◌, false, [], length, refl, sym, ap, subst, arith, is_some}
 use Rattle.std.specs.Prelude.{OnOk}
 use Rattle.std.specs.FinMap.{get}
 use Rattle.bk_object.specs.declared.Facts.{Facts}
@@ -55,7 +55,7 @@ returns-in-Ok-clause-made c =
     let number : c.level_number.result ≡ level_number store (parent c.in-Ok.path) = c.level_number.ensures ∙ ap (level_number store) c.above.ensures in
     let created : IsCreated store c.create.new.self c.args.core.now.words c.create.new.core.words c.in-Ok.path c.new_facts-facts.result =
     subst (λ r. OnOk r (IsCreated store c.create.new.self c.args.core.now.words c.create.new.core.words c.in-Ok.path c.new_facts-facts.result)) c.unwrap.ensures c.create.ensures.ok in
-    rule-made c.args.caller.now store c.create.new.self c.args.core.now.words c.create.new.core.words c.args.process.now c.agree.new.process c.agree.result Create c.in-Ok.ensures.1
+    rule-made c.args.caller.now store c.create.new.self c.args.core.now.words c.create.new.core.words c.args.process.now c.agree.new.process c.agree.result Create refl c.in-Ok.ensures.1
     (stands-new c.args.caller.now store c.create.new.self c.args.core.now.words c.create.new.core.words general c.in-Ok.path c.new_facts-facts.result c.level_number.result c.in-Ok.ensures.0 number c.new_facts-facts.ensures created)
     c.create.ensures.kernel c.agree.ensures.process c.agree.ensures.reply
 

@@ -21,7 +21,7 @@ returns-in-Ok-clause-made c = λ words.
     let store = c.args.store.now in
     let caller = c.args.caller.now in
     let request = request_in c.args.process.now.registers.general in
-    rule-made caller store c.delete_group.new.self words words c.args.process.now c.agree.new.process c.agree.result DeleteGroup c.in-Ok.ensures.1
+    rule-made caller store c.delete_group.new.self words words c.args.process.now c.agree.new.process c.agree.result DeleteGroup refl c.in-Ok.ensures.1
     (subst (λ (x : Stored). StandsFor x words (changed (with_lines store (seen_by caller store words)) caller.subject DeleteGroup request)) (sym c.delete_group.ensures)
     (stands-gone caller store words caller.subject request c.in-Ok.path c.in-Ok.ensures.0))
     refl c.agree.ensures.process c.agree.ensures.reply
