@@ -1,6 +1,6 @@
 -- Two states in which the same lies under a level, subject by subject and path by path.
 use Rattle.std.proofs.Common.{◌≡◌, ℕ, Bool, true, false, ◌&&◌, [], ◌∷◌, Option, Some, None, length, refl, sym, ap, ◌∙◌, subst, nat_lt}
-use Rattle.std.specs.Prelude.{List, if◌then◌else◌}
+use Rattle.std.specs.Prelude.{List, slice_index, if◌then◌else◌}
 use Rattle.std.specs.Cmp.{both_ways}
 use Rattle.std.specs.FinMap as map
 use Rattle.std.specs.FinSet as set
@@ -21,6 +21,8 @@ use Rattle.bk_laws.proofs.SecureFrame.{is_above}
 
 -- What lies under the level is the same in both. The second state has the first's fixed part.
 pub record Alike (level : Level) (v w : State) : Type 0 where
+  pub subjects : (s : ℕ) → is_subject_under level v s ≡ is_subject_under level w s
+  pub current : (s : ℕ) → is_subject_under level v s ≡ true → slice_index v.current s ≡ slice_index w.current s
   pub process : (s : ℕ) → is_subject_under level v s ≡ true → process_of v s ≡ process_of w s
   pub holds_same : (s : ℕ) (path : Path) (mode : AccessMode) → is_subject_under level v s ≡ true → holds v s path mode ≡ holds w s path mode
   pub shows_same : (path : Path) → shows level v path ≡ shows level w path
@@ -35,24 +37,26 @@ if_alike : {A : Type 0} (a b : Bool) (x y z : A) → a ≡ b → (a ≡ true →
 if_alike true b x y z e same = same refl ∙ ap (λ c. if c then y else z) e
 if_alike false b x y z e same = ap (λ c. if c then y else z) e
 
-and_alike : (a x y : Bool) → (a ≡ true → x ≡ y) → (a && x) ≡ (a && y)
-and_alike true x y same = same refl
-and_alike false x y same = refl
+and_alike : (a b x y : Bool) → a ≡ b → (a ≡ true → x ≡ y) → (a && x) ≡ (b && y)
+and_alike true b x y e same = same refl ∙ ap (λ c. c && y) e
+and_alike false b x y e same = ap (λ c. c && y) e
 
 -- then the low views are the same
-pub low_from_alike : (level : Level) (v : State) (objects : map.FinMap path_cmp Object) (access : set.FinSet triple_cmp) (processes : List Process) →
-    Alike level v (moved v objects access processes) → low level v ≡ low level (moved v objects access processes)
+pub low_from_alike : (level : Level) (v : State) (current : List ℕ) (objects : map.FinMap path_cmp Object) (access : set.FinSet triple_cmp) (processes : List Process) →
+    Alike level v (moved v current objects access processes) → low level v ≡ low level (moved v current objects access processes)
 unfolding low
-low_from_alike level v objects access processes alike = λ i. record {
+low_from_alike level v current objects access processes alike = λ i. record {
   fixed = v.fixed;
-  process = λ s. if_alike (is_subject_under level v s) (is_subject_under level v s) (process_of v s) (process_of w s) None refl (alike.process s) i;
-  holds = λ s path mode. and_alike (is_subject_under level v s) (holds v s path mode) (holds w s path mode) (alike.holds_same s path mode) i;
+  subjects = λ s. alike.subjects s i;
+  current = λ s. if_alike (is_subject_under level v s) (is_subject_under level w s) (Some (slice_index v.current s)) (Some (slice_index w.current s)) None (alike.subjects s) (λ h. ap Some (alike.current s h)) i;
+  process = λ s. if_alike (is_subject_under level v s) (is_subject_under level w s) (process_of v s) (process_of w s) None (alike.subjects s) (alike.process s) i;
+  holds = λ s path mode. and_alike (is_subject_under level v s) (is_subject_under level w s) (holds v s path mode) (holds w s path mode) (alike.subjects s) (alike.holds_same s path mode) i;
   facts = λ path. if_alike (shows level v path) (shows level w path) (facts_at v path) (facts_at w path) None (alike.shows_same path) (alike.facts path) i;
   contents = λ path. alike.contents path i;
 }
   where
     w : State
-    w = moved v objects access processes
+    w = moved v current objects access processes
 
 -- an object whose level is under the level shows
 pub shows_under : (level : Level) (v : State) (path : Path) → Secure v → passes (is_under level v) (facts_at v path) ≡ true → shows level v path ≡ true
@@ -81,6 +85,11 @@ pub nothing_under : (level : Level) (v : State) (o : Option Object) → passes (
 nothing_under level v None high = refl
 nothing_under level v (Some o) high = ap (λ b. if b then Some o.contents else None) high
 
+-- where the low views are the same, the same subjects are under the level
+pub subject-low : (level : Level) (v w : State) → low level v ≡ low level w → (s : ℕ) → is_subject_under level v s ≡ is_subject_under level w s
+unfolding low
+subject-low level v w same s = ap (λ view. view.subjects s) same
+
 if_true : {A : Type 0} (b : Bool) (x y z : A) → b ≡ true → (if b then x else z) ≡ (if b then y else z) → x ≡ y
 if_true true x y z is e = e
 if_true false x y z is e = cc
@@ -106,13 +115,19 @@ module _ (level : Level) (fixed : Fixed) where
 pub alike_from_low : (level : Level) (v w : State) → Secure v → Secure (fixed_to v.fixed w) → low level v ≡ low level (fixed_to v.fixed w) → Alike level v (fixed_to v.fixed w)
 unfolding low
 alike_from_low level v w sv sw e = record {
-  process = λ s h. if_true (is_subject_under level v s) _ _ None h (ap (λ x. x.process s) e);
-  holds_same = λ s path mode h. and_true (is_subject_under level v s) _ _ h (ap (λ y. y.holds s path mode) e);
+  subjects = subjects;
+  current = λ s h. some_same (if_true (is_subject_under level v s) (Some (slice_index v.current s)) (Some (slice_index w.current s)) None h
+      (ap (λ x. x.current s) e ∙ ap (λ c. if c then Some (slice_index w.current s) else None) (sym (subjects s))));
+  process = λ s h. if_true (is_subject_under level v s) _ _ None h (ap (λ x. x.process s) e ∙ ap (λ c. if c then process_of w s else None) (sym (subjects s)));
+  holds_same = λ s path mode h. and_true (is_subject_under level v s) _ _ h (ap (λ y. y.holds s path mode) e ∙ ap (λ c. c && holds w s path mode) (sym (subjects s)));
   shows_same = shows_same;
   facts = λ path h. if_true (shows level v path) _ _ None h (ap (λ x. x.facts path) e ∙ ap (λ c. if c then facts_at w path else None) (sym (shows_same path)));
   contents = λ path. ap (λ x. x.contents path) e;
 }
   where
+    subjects : (s : ℕ) → is_subject_under level v s ≡ is_subject_under level (fixed_to v.fixed w) s
+    subjects s = ap (λ x. x.subjects s) e
+
     shows_same : (path : Path) → shows level v path ≡ shows level (fixed_to v.fixed w) path
     shows_same path = both_ways _ _ (shows_there level v.fixed v w e sv path) (shows_there level v.fixed w v (sym e) sw path)
 
@@ -134,6 +149,8 @@ same_object level v w alike sec path under = by (find v path) (find w path) unde
 
 pub alike_itself : (level : Level) (v : State) → Alike level v v
 alike_itself level v = record {
+  subjects = λ s. refl;
+  current = λ s h. refl;
   process = λ s h. refl;
   holds_same = λ s path mode h. refl;
   shows_same = λ path. refl;
@@ -147,6 +164,8 @@ pub alike-contents : (level : Level) (v w : State) → Alike level v (fixed_to v
     ((path : Path) → contents_under level v (map.get a path) ≡ contents_under level v (map.get b path)) →
     Alike level (with_objects v a) (with_objects (fixed_to v.fixed w) b)
 alike-contents level v w alike a b same_v same_w contents = record {
+  subjects = alike.subjects;
+  current = alike.current;
   process = alike.process;
   holds_same = alike.holds_same;
   shows_same = shows_same;

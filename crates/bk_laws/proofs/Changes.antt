@@ -1,8 +1,9 @@
 -- What the changes of a state leave: at each path, of each access, and in the rest.
 use Rattle.std.proofs.Common.{◌≡◌, ◌≢◌, ℕ, zero, suc, [], ◌∷◌, ◌==◌, arith, Bool, true, false, ◌&&◌, ◌||◌, not, Option, Some, None, refl, sym, ap}
-use Rattle.std.proofs.Common.{◌∙◌, is_eq, ◌⊎◌, inl, inr}
+use Rattle.std.proofs.Common.{◌∙◌, is_eq, ◌⊎◌, inl, inr, unwrap_or, ◌<◌, length, true≢false}
 use Rattle.std.proofs.lemmas.Bool.Decides.{nat_tests}
-use Rattle.std.specs.Prelude.{List, option_map, slice_get, slice_set, if◌then◌else◌}
+use Rattle.std.proofs.lemmas.List.{set-get_or, get_or-set_same}
+use Rattle.std.specs.Prelude.{List, option_map, slice_get, slice_index, slice_set, if◌then◌else◌}
 use Rattle.std.specs.Ordering.{eq_by_cmp}
 use Rattle.std.specs.FinMap as map
 use Rattle.std.specs.FinSet as set
@@ -17,7 +18,7 @@ use Rattle.bk_space.specs.Status.{word_of}
 use Rattle.bk_space.specs.declared.reference.Mode.TheVariants.{Supervisor}
 use Rattle.bk_space.specs.declared.reference.Space.TheVariants.{D}
 use Rattle.bk_space.specs.declared.reference.Width.TheVariants.{Word}
-use Rattle.bk_state.specs.State.{State, Object, Contents, Triple, triple_cmp, find, facts_at, holds}
+use Rattle.bk_state.specs.State.{State, Object, Contents, Triple, triple_cmp, find, facts_at, holds, with_raised}
 use Rattle.bk_state.specs.RowCalls.{changed_at, changed_by}
 use Rattle.bk_state.specs.AccessCalls.{with_triple}
 use Rattle.bk_state.specs.TreeCalls.{without_group}
@@ -41,8 +42,8 @@ abbrev pub with_changes : State → State → State
 with_changes v w = record v { objects = w.objects; access = w.access }
 
 -- the state with all but its fixed part given
-abbrev pub moved : State → map.FinMap path_cmp Object → set.FinSet triple_cmp → List Process → State
-moved v objects access processes = record { fixed = v.fixed; objects = objects; access = access; processes = processes }
+abbrev pub moved : State → (current : List ℕ) → map.FinMap path_cmp Object → set.FinSet triple_cmp → List Process → State
+moved v current objects access processes = record { fixed = v.fixed; current = current; objects = objects; access = access; processes = processes }
 
 -- the two writes of a reflection: of the processor status, and of the program counter
 abbrev pub status_push : Process → Write
@@ -169,6 +170,44 @@ slice_get-set (y ∷ ys) (suc n) x (suc k) = slice_get-set ys n x k ∙ ap (λ b
 pub slice_get-set_other : {A : Type 0} (xs : List A) (n : ℕ) (x : A) (k : ℕ) → k ≢ n → slice_get (slice_set xs n x) k ≡ slice_get xs k
 slice_get-set_other xs n x k apart = slice_get-set xs n x k
     ∙ ap (λ b. if b then option_map (λ _. x) (slice_get xs k) else slice_get xs k) (false_if (k == n) (λ is. apart (grind (arith, nat_tests, is))))
+
+-- ---- current levels
+
+-- a number of a list after one of its numbers is set: as it was, or what was set
+pub index-set : (xs : List ℕ) (s n j : ℕ) → (slice_index (slice_set xs s n) j ≡ slice_index xs j) ⊎ ((j ≡ s) × (slice_index (slice_set xs s n) j ≡ n))
+index-set [] s n j = inl refl
+index-set (x ∷ xs) zero n zero = inr (refl, refl)
+index-set (x ∷ xs) zero n (suc j) = inl refl
+index-set (x ∷ xs) (suc s) n zero = inl refl
+index-set (x ∷ xs) (suc s) n (suc j) = elim (index-set xs s n j) [ inl e ↦ inl e | inr (e, f) ↦ inr (ap suc e, f) ]
+
+pub index-set_same : (xs : List ℕ) (s n j : ℕ) → s < length xs → (j == s) ≡ true → slice_index (slice_set xs s n) j ≡ n
+index-set_same xs s n j there is =
+    let at : j ≡ s = grind (arith, nat_tests, is) in
+    ap (slice_index (slice_set xs s n)) at ∙ get_or-set_same xs s n 0 there
+
+pub index-set_other : (xs : List ℕ) (s n j : ℕ) → (j == s) ≡ false → slice_index (slice_set xs s n) j ≡ slice_index xs j
+index-set_other xs s n j apart = by (index-set xs s n j)
+  where
+    by : (slice_index (slice_set xs s n) j ≡ slice_index xs j) ⊎ ((j ≡ s) × (slice_index (slice_set xs s n) j ≡ n)) → slice_index (slice_set xs s n) j ≡ slice_index xs j
+    by (inl e) = e
+    by (inr (at, e)) = let same : (j == s) ≡ true = grind (arith, nat_tests, at) in absurd (true≢false (sym same ∙ apart))
+
+-- the number of a subject is set to what it is
+pub set_itself : (xs : List ℕ) (s : ℕ) → slice_set xs s (slice_index xs s) ≡ xs
+set_itself xs s = set-get_or xs s 0
+
+-- what changes objects and current access set, and then raises a level if there is a number, changes no more than that
+pub raised-is : (v w : State) (s : ℕ) (level : Option ℕ) → w ≡ with_changes v w →
+    with_raised s level w ≡ record (with_changes v (with_raised s level w)) { current = slice_set v.current s (unwrap_or level (slice_index v.current s)) }
+raised-is v w s None same = same ∙ (λ i. record (with_changes v w) { current = sym (set_itself v.current s) i })
+raised-is v w s (Some level) same = λ i. record {
+  fixed = (same i).fixed;
+  current = slice_set (same i).current s level;
+  objects = w.objects;
+  access = w.access;
+  processes = (same i).processes;
+}
 
 -- ---- all else
 

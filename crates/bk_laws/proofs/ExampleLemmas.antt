@@ -32,6 +32,14 @@ pub other_subject : (low lowest example).process 1 ≡ None
 unfolding low
 other_subject = refl
 
+pub own_level : (low lowest example).current 0 ≡ Some 0
+unfolding low
+own_level = refl
+
+pub other_level : (low lowest example).current 1 ≡ None
+unfolding low
+other_level = refl
+
 held_now : holds example 0 [] Read ≡ true
 held_now = set.contains-from_list triple_total ((0, [], Read) ∷ (1, [], Read) ∷ []) (0, [], Read)
 

@@ -15,6 +15,7 @@ pub mod SecureNew
 pub mod SecureGroup
 pub mod SecureContents
 pub mod SecureProcesses
+pub mod Rising
 pub mod SecureCalls
 pub mod SecureEvents
 -- two states in which the same lies under a level
@@ -22,6 +23,7 @@ pub mod Alike
 pub mod SeenItems
 -- what a level does not see
 pub mod Unseen
+pub mod UnseenLevels
 pub mod UnseenChanges
 pub mod UnseenCalls
 pub mod UnseenTurns

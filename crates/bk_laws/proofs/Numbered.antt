@@ -21,14 +21,14 @@ use Rattle.bk_state.specs.declared.call.Call.{Call}
 use Rattle.bk_state.specs.declared.call.Call.TheVariants.{ByRule, Other}
 use Rattle.bk_state.specs.declared.call.Service.TheVariants.{Window, Unwindow, Deposit, Send, Receive, LineOut, LineIn, Entry, Identify, Quota}
 use Rattle.bk_state.specs.declared.call.Service.TheVariants.{Pause, SetFaultEntry, Stop}
-use Rattle.bk_state.specs.declared.rule.Rule.TheVariants.{GetRead, GetAppend, GetExecute, GetWrite, Release, Give, Rescind, Create, DeleteGroup}
+use Rattle.bk_state.specs.declared.rule.Rule.TheVariants.{GetRead, GetAppend, GetExecute, GetWrite, Release, Give, Rescind, Create, DeleteGroup, RaiseLevel}
 use Rattle.bk_system.specs.declared.at.At.{At}
 use Rattle.bk_state.specs.State.{State, Object, Contents, Children, Words, Messages, Typed, find, process_of}
 use Rattle.bk_state.specs.Secure.{Secure, FitsKind}
 use Rattle.bk_state.specs.declared.cause.CallCause.{CallCause}
 use Rattle.bk_state.specs.declared.cause.CallCause.TheVariants.{NotInRow, AboveGreatest, WrongCurrent, NoParentWrite, LevelFalls, Taken, OverQuota}
 use Rattle.bk_state.specs.declared.cause.CallCause.TheVariants.{NotHeld, Empty, TooLong, IsRoot, NoCall, NoPath, NotNamed, WrongKind, BadArgument}
-use Rattle.bk_state.specs.declared.cause.CallCause.TheVariants.{NoObject}
+use Rattle.bk_state.specs.declared.cause.CallCause.TheVariants.{NoObject, StarProperty}
 use Rattle.bk_state.specs.Causes.{cause_number, cause_in}
 use Rattle.bk_state.specs.Calls.{call_of, definition_of, call_refusal}
 use Rattle.bk_state.specs.Request.{Request, register, request_in}
@@ -65,6 +65,7 @@ cause_small NotNamed = omega arith
 cause_small WrongKind = omega arith
 cause_small BadArgument = omega arith
 cause_small NoObject = omega arith
+cause_small StarProperty = omega arith
 
 cause_in_small : (cause : Option CallCause) → cause_in cause < 2 ^ 64
 cause_in_small None = omega arith
@@ -115,6 +116,7 @@ module _ (v : State) (sec : Secure v) where
   each_line (ByRule Rescind) request = tt
   each_line (ByRule Create) request = tt
   each_line (ByRule DeleteGroup) request = tt
+  each_line (ByRule RaiseLevel) request = tt
   each_line (Other Window) request = tt
   each_line (Other Unwindow) request = tt
   each_line (Other Deposit) request = tt

@@ -1,17 +1,17 @@
 -- What each kernel call changes on yes keeps a secure state secure, leaves the fixed part and the processes, and leaves the
 -- caller's process sound.
-use Rattle.std.proofs.Common.{◌≡◌, ℕ, ◌/◌, ◌%◌, Bool, true, false, ◌||◌, ◌==◌, nat_le, List, refl, sym, ap, ◌∙◌, subst, arith, length-set}
+use Rattle.std.proofs.Common.{◌≡◌, ℕ, ◌/◌, ◌%◌, Bool, true, false, ◌||◌, ◌==◌, nat_le, List, None, refl, sym, ap, ◌∙◌, subst, arith, length-set}
 use Rattle.std.proofs.lemmas.Bool.Decides.{nat_tests}
 use Rattle.bk_object.specs.Modes.{Read, Execute, Write, Append}
 use Rattle.bk_object.specs.Rows.{given, rescinded}
 use Rattle.bk_process.specs.NewProcess.{entries_of_process}
 use Rattle.bk_process.specs.declared.process.Process.{Process}
-use Rattle.bk_state.specs.declared.rule.Rule.TheVariants.{GetRead, GetAppend, GetExecute, GetWrite, Release, Give, Rescind, Create, DeleteGroup}
+use Rattle.bk_state.specs.declared.rule.Rule.TheVariants.{GetRead, GetAppend, GetExecute, GetWrite, Release, Give, Rescind, Create, DeleteGroup, RaiseLevel}
 use Rattle.bk_state.specs.declared.call.Call.{Call}
 use Rattle.bk_state.specs.declared.call.Call.TheVariants.{ByRule, Other}
 use Rattle.bk_state.specs.declared.call.Service.TheVariants.{Window, Unwindow, Deposit, Send, Receive, LineOut, LineIn, Entry, Identify, Quota}
 use Rattle.bk_state.specs.declared.call.Service.TheVariants.{Pause, SetFaultEntry, Stop}
-use Rattle.bk_state.specs.State.{State, facts_at}
+use Rattle.bk_state.specs.State.{State, facts_at, with_raised}
 use Rattle.bk_state.specs.Contents.{with_contents, with_word, put, without_message, without_byte}
 use Rattle.bk_state.specs.Secure.{Secure}
 use Rattle.bk_state.specs.Request.{Request, register, request_in}
@@ -23,6 +23,7 @@ use Rattle.bk_state.specs.SegmentCalls.{window, unwindow, deposit}
 use Rattle.bk_state.specs.QueueCalls.{send, receive, line_out, line_in, message_in}
 use Rattle.bk_state.specs.TellingCalls.{entry, identify, quota}
 use Rattle.bk_state.specs.ProcessCalls.{pause, set_fault_entry, stop}
+use Rattle.bk_state.specs.LevelCalls.{raise_level}
 use Rattle.bk_state.specs.Calls.{definition_of}
 use Rattle.bk_laws.proofs.Tests.{Passes, passed, not_false, passes_both}
 use Rattle.bk_laws.proofs.Changes.{with_changes, changed_at-changes}
@@ -34,18 +35,20 @@ use Rattle.bk_laws.proofs.SecureNew.{secure_create}
 use Rattle.bk_laws.proofs.SecureGroup.{secure_delete_group}
 use Rattle.bk_laws.proofs.SecureContents.{secure_contents}
 use Rattle.bk_laws.proofs.SecureProcesses.{all_set, still_whole}
+use Rattle.bk_laws.proofs.Rising.{secure_raised}
 
 -- what is to be shown of a call
 pub record CallKeeps (call : KernelCall) : Type 0 where
-  pub secure : (v : State) (s : ℕ) (general : List ℕ) → Secure v → Passes v s call (request_in general) → Secure (call.changes v s (request_in general))
+  pub secure : (v : State) (s : ℕ) (general : List ℕ) → Secure v → Passes v s call (request_in general) →
+      Secure (with_raised s (call.raises (request_in general)) (call.changes v s (request_in general)))
   pub changes : (v : State) (s : ℕ) (request : Request) → call.changes v s request ≡ with_changes v (call.changes v s request)
   pub sound : (v : State) (s : ℕ) (request : Request) (p : Process) → Passes v s call request → IsSound p → IsSound (call.alters request p)
 
 -- a call that changes nothing but what it tells
-changes_nothing : (call : KernelCall) → ((v : State) (s : ℕ) (request : Request) → call.changes v s request ≡ v) → ((request : Request) (p : Process) → call.alters request p ≡ p) →
-    CallKeeps call
-changes_nothing call same still = record {
-  secure = λ v s general sec none. subst Secure (sym (same v s (request_in general))) sec;
+changes_nothing : (call : KernelCall) → ((v : State) (s : ℕ) (request : Request) → call.changes v s request ≡ v) → ((request : Request) → call.raises request ≡ None) →
+    ((request : Request) (p : Process) → call.alters request p ≡ p) → CallKeeps call
+changes_nothing call same lies still = record {
+  secure = λ v s general sec none. subst Secure (λ i. with_raised s (sym (lies (request_in general)) i) (sym (same v s (request_in general)) i)) sec;
   changes = λ v s request. same v s request ∙ sym (ap (with_changes v) (same v s request));
   sound = λ v s request p none sound. subst IsSound (sym (still request p)) sound;
 }
@@ -169,7 +172,7 @@ receive-keeps = record {
 }
 
 line_out-keeps : CallKeeps line_out
-line_out-keeps = changes_nothing line_out (λ v s request. refl) (λ request p. refl)
+line_out-keeps = changes_nothing line_out (λ v s request. refl) (λ request. refl) (λ request p. refl)
 
 line_in-keeps : CallKeeps line_in
 line_in-keeps = record {
@@ -181,13 +184,13 @@ line_in-keeps = record {
 -- ---- calls that tell the caller something
 
 entry-keeps : CallKeeps entry
-entry-keeps = changes_nothing entry (λ v s request. refl) (λ request p. refl)
+entry-keeps = changes_nothing entry (λ v s request. refl) (λ request. refl) (λ request p. refl)
 
 identify-keeps : CallKeeps identify
-identify-keeps = changes_nothing identify (λ v s request. refl) (λ request p. refl)
+identify-keeps = changes_nothing identify (λ v s request. refl) (λ request. refl) (λ request p. refl)
 
 quota-keeps : CallKeeps quota
-quota-keeps = changes_nothing quota (λ v s request. refl) (λ request p. refl)
+quota-keeps = changes_nothing quota (λ v s request. refl) (λ request. refl) (λ request p. refl)
 
 -- ---- calls by which a process changes itself
 
@@ -222,6 +225,17 @@ stop-keeps = record {
   sound = λ v s request p none sound. sound;
 }
 
+-- ---- the call by which a subject raises its level
+
+raise_level-keeps : CallKeeps raise_level
+raise_level-keeps = record {
+  secure = λ v s general sec none.
+      let (listed, (under, (above, (star, end)))) = passed v s raise_level (request_in general) none in
+      secure_raised v s (register (request_in general) 3) sec listed (not_false _ under) (not_false _ above) (not_false _ star);
+  changes = λ v s request. refl;
+  sound = λ v s request p none sound. sound;
+}
+
 -- ---- all calls
 
 pub each_keeps : (call : Call) → CallKeeps (definition_of call)
@@ -234,6 +248,7 @@ each_keeps (ByRule Give) = give-keeps
 each_keeps (ByRule Rescind) = rescind-keeps
 each_keeps (ByRule Create) = create-keeps
 each_keeps (ByRule DeleteGroup) = delete_group-keeps
+each_keeps (ByRule RaiseLevel) = raise_level-keeps
 each_keeps (Other Window) = window-keeps
 each_keeps (Other Unwindow) = unwindow-keeps
 each_keeps (Other Deposit) = deposit-keeps

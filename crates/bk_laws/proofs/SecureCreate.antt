@@ -105,6 +105,8 @@ module _ (v : State) (entry : ℕ) (path : Path) (o : Object) (sec : Secure v) (
   secure_joined = record {
     processes = sec.processes;
     shape = record {
+      current = sec.shape.current;
+      listed = sec.shape.listed;
       rows = λ p f is. split _ p f is (λ at same. ap (λ g. length g.row) same ∙ joins.places) (λ there. sec.shape.rows p f there);
       processes = sec.shape.processes;
     };

@@ -1,5 +1,5 @@
 -- Every event keeps a secure state secure.
-use Rattle.std.proofs.Common.{◌≡◌, ℕ, Bool, true, false, List, [], ◌∷◌, Option, Some, None, refl, ◌∙◌, subst}
+use Rattle.std.proofs.Common.{◌≡◌, ℕ, Bool, true, false, List, [], ◌∷◌, Option, Some, None, refl, sym, ◌∙◌, subst}
 use Rattle.std.specs.Prelude.{slice_set, slice_index}
 use Rattle.bk_space.specs.AddrSpace.{applied}
 use Rattle.bk_exec.specs.declared.event.Event as execution
@@ -14,14 +14,14 @@ use Rattle.bk_state.specs.declared.cause.CallCause.TheVariants.{NoCall}
 use Rattle.bk_state.specs.State.{State, process_of}
 use Rattle.bk_state.specs.Secure.{Secure}
 use Rattle.bk_state.specs.declared.cause.CallCause.{CallCause}
-use Rattle.bk_state.specs.Calls.{call_of, call_refusal}
+use Rattle.bk_state.specs.Calls.{call_of, definition_of, call_refusal}
 use Rattle.bk_state.specs.Request.{request_in}
-use Rattle.bk_state.specs.Answers.{Called, outcome, reply, with_call, answered_by, called_by, called}
+use Rattle.bk_state.specs.Answers.{Called, outcome, level_after, raised_by, reply, with_call, answered_by, called_by, called}
 use Rattle.bk_system.specs.Event.{Event, Arrive, Turn, EndSlot, happens}
 use Rattle.bk_system.specs.Turn.{written, with_process, with_pushes, fault_number, is_reflected, entered, faulted, ended, turn_by}
 use Rattle.bk_system.specs.Turn.{turn_of_process, turn_of}
 use Rattle.bk_system.specs.declared.at.At.{At}
-use Rattle.bk_laws.proofs.Changes.{with_changes}
+use Rattle.bk_laws.proofs.Changes.{with_changes, raised-is, set_itself}
 use Rattle.bk_system.proofs.FixedPart.{happens-fixed}
 use Rattle.bk_system.specs.Space.{space_of}
 use Rattle.bk_laws.specs.Laws.{KeepsSecure, LawReached}
@@ -37,28 +37,38 @@ secure_outcome : (v : State) (s : ℕ) (call : Call) (general : List ℕ) → Se
 unfolding outcome
 secure_outcome v s call general sec none = (each_keeps call).secure v s general sec (not_refused v s call general none)
 
-outcome-changes : (v : State) (s : ℕ) (call : Call) (general : List ℕ) → outcome v s call general ≡ with_changes v (outcome v s call general)
-unfolding outcome
-outcome-changes v s call general = (each_keeps call).changes v s (request_in general)
+-- objects and current access set of another state, and a level of the subject
+abbrev joined_with : State → (w : State) (s level : ℕ) → State
+joined_with v w s level = record (with_changes v w) { current = slice_set v.current s level }
 
--- objects and current access set of another state, and one process that is another
-secure_joined : (v w : State) (s : ℕ) (p : Process) → w ≡ with_changes v w → Secure w → IsSound p → Secure (with_process (with_changes v w) s p)
-secure_joined v w s p changes sec sound = secure_with_process (with_changes v w) s p (subst Secure changes sec) sound
+outcome-changes : (v : State) (s : ℕ) (call : Call) (general : List ℕ) → outcome v s call general ≡ joined_with v (outcome v s call general) s (level_after v s (raised_by call general))
+unfolding outcome
+outcome-changes v s call general =
+    raised-is v ((definition_of call).changes v s (request_in general)) s ((definition_of call).raises (request_in general)) ((each_keeps call).changes v s (request_in general))
+
+-- and one process that is another
+secure_joined : (v w : State) (s level : ℕ) (p : Process) → w ≡ joined_with v w s level → Secure w → IsSound p → Secure (with_process (joined_with v w s level) s p)
+secure_joined v w s level p changes sec sound = secure_with_process (joined_with v w s level) s p (subst Secure changes sec) sound
 
 abbrev left_by : State → (s : ℕ) → Called → State
-left_by v s c = record v { objects = c.objects; access = c.access; processes = slice_set v.processes s c.process }
+left_by v s c = record v { objects = c.objects; access = c.access; current = slice_set v.current s (level_after v s c.raised); processes = slice_set v.processes s c.process }
+
+-- the level stays, and one process is another
+secure_refused : (v : State) (s : ℕ) (p : Process) → Secure v → IsSound p → Secure (record v { current = slice_set v.current s (slice_index v.current s); processes = slice_set v.processes s p })
+secure_refused v s p sec sound =
+    subst (λ current. Secure (record v { current = current; processes = slice_set v.processes s p })) (sym (set_itself v.current s)) (secure_with_process v s p sec sound)
 
 module _ (v : State) (at : At) (p : Process) (sec : Secure v) (sound : IsSound p) where
   secure_answered : (call : Call) (o : Option CallCause) → call_refusal v at.subject call p.registers.general ≡ o → Secure (left_by v at.subject (answered_by v at.subject p call o))
   secure_answered call None is =
-      secure_joined v (outcome v at.subject call p.registers.general) at.subject _ (outcome-changes v at.subject call p.registers.general)
+      secure_joined v (outcome v at.subject call p.registers.general) at.subject (level_after v at.subject (raised_by call p.registers.general)) _ (outcome-changes v at.subject call p.registers.general)
       (secure_outcome v at.subject call p.registers.general sec is)
       (sound_with_values (reply v at.subject call p.registers.general) (with_call call p.registers.general p)
       ((each_keeps call).sound v at.subject (request_in p.registers.general) p (not_refused v at.subject call p.registers.general is) sound))
-  secure_answered call (Some cause) is = secure_with_process v at.subject _ sec (sound_with_values (answer_number cause ∷ cause_number cause ∷ []) p sound)
+  secure_answered call (Some cause) is = secure_refused v at.subject _ sec (sound_with_values (answer_number cause ∷ cause_number cause ∷ []) p sound)
 
   secure_called_by : (o : Option Call) → Secure (left_by v at.subject (called_by v at.subject p o))
-  secure_called_by None = secure_with_process v at.subject _ sec (sound_with_values (answer_number NoCall ∷ cause_number NoCall ∷ []) p sound)
+  secure_called_by None = secure_refused v at.subject _ sec (sound_with_values (answer_number NoCall ∷ cause_number NoCall ∷ []) p sound)
   secure_called_by (Some call) = secure_answered call (call_refusal v at.subject call p.registers.general) refl
 
   secure_called : (number : ℕ) → Secure (left_by v at.subject (called v at.subject p number))

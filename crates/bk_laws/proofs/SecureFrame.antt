@@ -55,9 +55,9 @@ pub are_sound : (v : State) → Secure v → AreSound v.processes
 are_sound v sec = (sec.entries, sec.shape.processes)
 
 module _ (v : State) (objects : map.FinMap path_cmp Object) (access : set.FinSet triple_cmp) (processes : List Process)
-    (sec : Secure v) (same : (q : Path) → shape_at (moved v objects access processes) q ≡ shape_at v q) where
+    (sec : Secure v) (same : (q : Path) → shape_at (moved v v.current objects access processes) q ≡ shape_at v q) where
   abbrev w : State
-  w = moved v objects access processes
+  w = moved v v.current objects access processes
 
   as_before : (t : Facts → Bool) (path : Path) → ((f : Facts) → t (shape f) ≡ t f) → passes t (facts_at v path) ≡ true → passes t (facts_at w path) ≡ true
   as_before t path blind h = sym (passes-shape t (facts_at w path) blind) ∙ ap (passes t) (same path) ∙ passes-shape t (facts_at v path) blind ∙ h
@@ -86,7 +86,7 @@ module _ (v : State) (objects : map.FinMap path_cmp Object) (access : set.FinSet
       length processes ≡ length v.fixed.subjects → AreSound processes → Secure w
   secure_frame kinds rows allowed named many sound = record {
     processes = many;
-    shape = record { rows = λ path facts is. (rows path facts is).0; processes = sound.1 };
+    shape = record { current = sec.shape.current; listed = sec.shape.listed; rows = λ path facts is. (rows path facts is).0; processes = sound.1 };
     distinct = sec.distinct;
     root = as_before (λ f. is_directory f.kind) [] (λ f. refl) sec.root;
     parents = λ entry path facts is. parents entry path facts (shape_back _ _ facts (same (entry ∷ path)) is);

@@ -123,7 +123,7 @@ module _ (v : State) (path : Path) where
     pub secure_without_group : Secure w
     secure_without_group = record {
       processes = sec.processes;
-      shape = record { rows = λ q f is. sec.shape.rows q f (group_left q f is).1; processes = sec.shape.processes };
+      shape = record { current = sec.shape.current; listed = sec.shape.listed; rows = λ q f is. sec.shape.rows q f (group_left q f is).1; processes = sec.shape.processes };
       distinct = sec.distinct;
       root = passes-kept _ [] (root_outside path below) sec.root;
       parents = λ entry q f is. let (out, was) = group_left (entry ∷ q) f is in passes-kept _ q (outside entry q path out) (sec.parents entry q f was);

@@ -1,6 +1,6 @@
 -- A call of a subject under a level leaves the same under the level, answers the same and sends the same in two states in
 -- which the same lies under it.
-use Rattle.std.proofs.Common.{◌≡◌, ℕ, ◌/◌, Bool, true, false, ◌&&◌, not, List, [], ◌∷◌, Option, Some, None, refl, sym, ap, ◌∙◌, subst, ◌==◌, is_some, inr}
+use Rattle.std.proofs.Common.{◌≡◌, ℕ, ◌/◌, Bool, true, false, ◌&&◌, not, List, [], ◌∷◌, Option, Some, None, refl, sym, ap, ◌∙◌, subst, ◌==◌, is_some, unwrap_or, inr}
 use Rattle.std.specs.FinMap as map
 use Rattle.std.specs.FinSet as set
 use Rattle.bk_level.specs.Levels.{Level, dominates}
@@ -11,12 +11,12 @@ use Rattle.bk_object.specs.Rows.{given, rescinded}
 use Rattle.bk_object.specs.declared.Facts.{Facts}
 use Rattle.bk_process.specs.declared.process.Process.{Process}
 use Rattle.bk_quota.specs.Charges.{passes}
-use Rattle.bk_state.specs.declared.rule.Rule.TheVariants.{GetRead, GetAppend, GetExecute, GetWrite, Release, Give, Rescind, Create, DeleteGroup}
+use Rattle.bk_state.specs.declared.rule.Rule.TheVariants.{GetRead, GetAppend, GetExecute, GetWrite, Release, Give, Rescind, Create, DeleteGroup, RaiseLevel}
 use Rattle.bk_state.specs.declared.call.Call.{Call}
 use Rattle.bk_state.specs.declared.call.Call.TheVariants.{ByRule, Other}
 use Rattle.bk_state.specs.declared.call.Service.TheVariants.{Window, Unwindow, Deposit, Send, Receive, LineOut, LineIn, Entry, Identify, Quota, Pause}
 use Rattle.bk_state.specs.declared.call.Service.TheVariants.{SetFaultEntry, Stop}
-use Rattle.bk_state.specs.State.{State, Object, Contents, Triple, triple_cmp, facts_at, level_of}
+use Rattle.bk_state.specs.State.{State, Object, Contents, Triple, triple_cmp, facts_at, level_of, with_raised}
 use Rattle.bk_state.specs.Quota.{level_number}
 use Rattle.bk_state.specs.Secure.{Secure}
 use Rattle.bk_state.specs.declared.cause.CallCause.{CallCause}
@@ -25,7 +25,7 @@ use Rattle.bk_state.specs.QueueCalls.{message_in}
 use Rattle.bk_state.specs.Calls.{call_of, definition_of, call_refusal}
 use Rattle.bk_state.specs.RowCalls.{changed_at, with_row, give, rescind}
 use Rattle.bk_state.specs.TreeCalls.{create, new_object}
-use Rattle.bk_state.specs.Answers.{Called, outcome, with_values, with_call, answered_by, called_by, called}
+use Rattle.bk_state.specs.Answers.{Called, outcome, level_after, raised_by, with_values, with_call, answered_by, called_by, called}
 use Rattle.bk_state.specs.Contents.{with_contents, with_word, put, without_message, without_byte}
 use Rattle.bk_laws.proofs.Changes.{moved, changed_at-is}
 use Rattle.bk_state.specs.Named.{is_named}
@@ -57,17 +57,17 @@ module _ (level : Level) (v w0 : State) (sv : Secure v) (sw : Secure (fixed_to v
 
   -- the same lies under the level where objects and current access set are those of these two
   abbrev Left : State → State → Type 0
-  Left a b = Alike level (moved v a.objects a.access v.processes) (moved v b.objects b.access w0.processes)
+  Left a b = Alike level (moved v v.current a.objects a.access v.processes) (moved v w0.current b.objects b.access w0.processes)
 
   -- ---- what changes
 
   left-changed : (a b : set.FinSet triple_cmp) (path : Path) (change : Object → Object) →
-      Alike level (moved v (changed_at (record v { access = a }) path change).objects a v.processes) (moved v (changed_at (record w { access = b }) path change).objects b w0.processes) →
+      Alike level (moved v v.current (changed_at (record v { access = a }) path change).objects a v.processes) (moved v w0.current (changed_at (record w { access = b }) path change).objects b w0.processes) →
       Left (changed_at (record v { access = a }) path change) (changed_at (record w { access = b }) path change)
   left-changed a b path change same =
-      subst (λ x. Alike level (moved v first.objects x v.processes) (moved v second.objects second.access w0.processes))
+      subst (λ x. Alike level (moved v v.current first.objects x v.processes) (moved v w0.current second.objects second.access w0.processes))
       (λ i. (sym (changed_at-is (record v { access = a }) path change) i).access)
-      (subst (λ x. Alike level (moved v first.objects a v.processes) (moved v second.objects x w0.processes))
+      (subst (λ x. Alike level (moved v v.current first.objects a v.processes) (moved v w0.current second.objects x w0.processes))
       (λ i. (sym (changed_at-is (record w { access = b }) path change) i).access) same)
     where
       first : State
@@ -112,7 +112,8 @@ module _ (level : Level) (v w0 : State) (sv : Secure v) (sw : Secure (fixed_to v
       let (path, (bad, (named, (root, (write, (falls, (free, (quota, end)))))))) = passed v s create request none in
       left-created request request.path root (not_false _ named) free
 
-  each_left : (call : Call) (request : Request) → Passes v s (definition_of call) request → Left ((definition_of call).changes v s request) ((definition_of call).changes w s request)
+  each_left : (call : Call) (request : Request) → Passes v s (definition_of call) request →
+      Left (with_raised s ((definition_of call).raises request) ((definition_of call).changes v s request)) (with_raised s ((definition_of call).raises request) ((definition_of call).changes w s request))
   each_left (ByRule GetRead) request none = alike-with_triple level v w0 alike s request.path Read
   each_left (ByRule GetAppend) request none = alike-with_triple level v w0 alike s request.path Append
   each_left (ByRule GetExecute) request none = alike-with_triple level v w0 alike s request.path Execute
@@ -122,6 +123,7 @@ module _ (level : Level) (v w0 : State) (sv : Secure v) (sw : Secure (fixed_to v
   each_left (ByRule Rescind) request none = rescind-left request none
   each_left (ByRule Create) request none = create-left request none
   each_left (ByRule DeleteGroup) request none = alike-without_group level v w0 alike request.path
+  each_left (ByRule RaiseLevel) request none = left_itself
   each_left (Other Window) request none = left_itself
   each_left (Other Unwindow) request none = left_itself
   each_left (Other Deposit) request none = left-contents request.path (with_word (register request 3 / 2) (register request 4))
@@ -144,7 +146,8 @@ module _ (level : Level) (v w0 : State) (sv : Secure v) (sw : Secure (fixed_to v
 
   -- two calls come to the same
   pub record CalledAlike (a b : Called) : Type 0 where
-    pub left : Alike level (moved v a.objects a.access v.processes) (moved v b.objects b.access w0.processes)
+    pub left : Alike level (moved v v.current a.objects a.access v.processes) (moved v w0.current b.objects b.access w0.processes)
+    pub number : level_after v s a.raised ≡ level_after w s b.raised
     pub process : a.process ≡ b.process
     pub cause : a.cause ≡ b.cause
     pub sent : a.sent ≡ b.sent
@@ -154,14 +157,15 @@ module _ (level : Level) (v w0 : State) (sv : Secure v) (sw : Secure (fixed_to v
       let none = not_refused v s call p.registers.general is in
       record {
         left = outcome-left call p.registers.general none;
+        number = ap (unwrap_or (raised_by call p.registers.general)) (alike.current s seen);
         process = ap (λ values. with_values values (with_call call p.registers.general p)) (reply-seen level v w0 sv sw alike s seen call p.registers.general none);
         cause = refl;
         sent = sent-seen level v w0 sv sw alike s seen call p.registers.general none;
       }
-  answered-seen p call (Some cause) is = record { left = alike; process = refl; cause = refl; sent = refl }
+  answered-seen p call (Some cause) is = record { left = alike; number = alike.current s seen; process = refl; cause = refl; sent = refl }
 
   called_by-seen : (p : Process) (o : Option Call) → CalledAlike (called_by v s p o) (called_by w s p o)
-  called_by-seen p None = record { left = alike; process = refl; cause = refl; sent = refl }
+  called_by-seen p None = record { left = alike; number = alike.current s seen; process = refl; cause = refl; sent = refl }
   called_by-seen p (Some call) =
       subst (λ o. CalledAlike (answered_by v s p call (call_refusal v s call p.registers.general)) (answered_by w s p call o)) (refusal-seen level v w0 sv sw alike s seen call p.registers.general)
       (answered-seen p call (call_refusal v s call p.registers.general) refl)

@@ -86,6 +86,8 @@ module _ (level : Level) (v w : State) (alike : Alike level v (fixed_to v.fixed 
       (is_under level v x.facts ≡ true → (passes (is_under level v) (facts_at v path) ≡ true) ⊎ ((entry : ℕ) → (facts_at v (entry ∷ path) ≡ None) × (facts_at w (entry ∷ path) ≡ None))) →
       Alike level (with_v (map.insert v.objects path x)) (with_w (map.insert w.objects path y))
   alike-insert path x y same shown before = record {
+    subjects = alike.subjects;
+    current = alike.current;
     process = alike.process;
     holds_same = alike.holds_same;
     shows_same = shows_same;
@@ -140,6 +142,8 @@ module _ (level : Level) (v w : State) (alike : Alike level v (fixed_to v.fixed 
   -- an object and its inferiors go, with all that is held of them
   pub alike-without_group : (path : Path) → Alike level (without_group v path) (without_group (fixed_to v.fixed w) path)
   alike-without_group path = record {
+    subjects = alike.subjects;
+    current = alike.current;
     process = alike.process;
     holds_same = λ j other x h. holds-retain v (λ t. not (is_inferior t.1 path)) j other x ∙ ap (λ b. b && not (is_inferior other path)) (alike.holds_same j other x h)
         ∙ sym (holds-retain (fixed_to v.fixed w) (λ t. not (is_inferior t.1 path)) j other x);

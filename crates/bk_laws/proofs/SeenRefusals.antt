@@ -1,16 +1,17 @@
 -- A call of a subject under a level is refused, and for the same cause, by what lies under the level.
 use Rattle.std.proofs.Common.{◌≡◌, ℕ, ◌+◌, ◌*◌, Bool, true, false, ◌&&◌, not, List, [], ◌∷◌, length, Some, None, refl, ap, ◌∙◌, subst, cond, nat_lt}
-use Rattle.std.proofs.Common.{nat_le, is_some, is_none}
+use Rattle.std.proofs.Common.{nat_le, is_some, is_none, Option, sym}
 use Rattle.std.specs.Prelude.{if◌then◌else◌}
+use Rattle.std.specs.Cmp.{both_ways}
 use Rattle.std.specs.List.{find as first, list_any, AllByRecursion}
 use Rattle.bk_level.specs.Levels.{Level, dominates, level_at}
 use Rattle.bk_path.specs.Paths.{Path, parent, is_root}
 use Rattle.bk_object.specs.Limits.{bytes_of_block}
-use Rattle.bk_object.specs.Modes.{Read, Write, is_within}
+use Rattle.bk_object.specs.Modes.{AccessMode, Read, Write, is_within}
 use Rattle.bk_object.specs.Kinds.{kind_modes, is_directory}
 use Rattle.bk_object.specs.Rows.{in_row}
 use Rattle.bk_quota.specs.Charges.{passes, charge_of}
-use Rattle.bk_state.specs.declared.rule.Rule.TheVariants.{GetRead, GetAppend, GetExecute, GetWrite, Release, Give, Rescind, Create, DeleteGroup}
+use Rattle.bk_state.specs.declared.rule.Rule.TheVariants.{GetRead, GetAppend, GetExecute, GetWrite, Release, Give, Rescind, Create, DeleteGroup, RaiseLevel}
 use Rattle.bk_state.specs.declared.call.Call.{Call}
 use Rattle.bk_state.specs.declared.call.Call.TheVariants.{ByRule, Other}
 use Rattle.bk_state.specs.declared.call.Service.TheVariants.{Window, Unwindow, Deposit, Send, Receive, LineOut, LineIn, Entry, Identify, Quota, Pause}
@@ -22,20 +23,22 @@ use Rattle.bk_state.specs.declared.cause.CallCause.{CallCause}
 use Rattle.bk_state.specs.declared.cause.CallCause.TheVariants.{NoPath, BadArgument, NotInRow, AboveGreatest, WrongCurrent, NoParentWrite, LevelFalls}
 use Rattle.bk_state.specs.declared.cause.CallCause.TheVariants.{Taken, NotHeld, TooLong, IsRoot, NotNamed, WrongKind, NoObject}
 use Rattle.bk_state.specs.Request.{Request, register, request_in, new_facts}
-use Rattle.bk_state.specs.Allowed.{is_simple, is_star, by_mode}
+use Rattle.bk_state.specs.Allowed.{is_simple, is_star, by_mode, may_rise}
 use Rattle.bk_state.specs.AccessCalls.{get_read, get_append, get_execute, get_write}
 use Rattle.bk_state.specs.RowCalls.{give, rescind}
 use Rattle.bk_state.specs.TreeCalls.{create, delete_group}
 use Rattle.bk_state.specs.SegmentCalls.{window, deposit}
 use Rattle.bk_state.specs.QueueCalls.{send, receive, line_out, line_in}
-use Rattle.bk_state.specs.KernelCall.{KernelCall, fails, has_room}
+use Rattle.bk_state.specs.KernelCall.{KernelCall, fails, has_room, is_above_greatest, is_wrong_current}
+use Rattle.bk_state.specs.LevelCalls.{raise_level}
 use Rattle.bk_state.specs.TellingCalls.{child_at, entry, quota}
 use Rattle.bk_state.specs.Contents.{has_message, has_byte}
 use Rattle.bk_state.specs.Calls.{definition_of, call_refusal}
 use Rattle.bk_state.specs.Named.{is_named}
 use Rattle.bk_state.specs.Low.{is_subject_under, is_under, shows}
 use Rattle.bk_laws.proofs.Tests.{passes_there, not_false}
-use Rattle.bk_laws.proofs.Alike.{Alike, fixed_to, same_object}
+use Rattle.bk_laws.proofs.Alike.{Alike, fixed_to, held_shows, same_object}
+use Rattle.bk_laws.proofs.Rising.{may_put, held_may_rise, may_rise-from}
 use Rattle.bk_laws.proofs.SecureAccess.{named_parent}
 use Rattle.bk_laws.proofs.Seen.{read_under, written_under, any_under, named_shows, shows_parent, is_named-seen, held-seen}
 use Rattle.bk_laws.proofs.SeenQuotas.{number_seen, quota_seen}
@@ -60,6 +63,21 @@ module _ (level : Level) (v w0 : State) (sv : Secure v) (sw : Secure (fixed_to v
     plain_held : Plain NotHeld
     plain_long : Plain TooLong
 
+  above_greatest-seen : (call : KernelCall) (request : Request) (raised : Option ℕ) → shows level v request.path ≡ true →
+      is_above_greatest v s call request raised ≡ is_above_greatest w s call request raised
+  above_greatest-seen call request None h =
+      ap (λ a. not (passes (λ facts. by_mode (λ mode. is_simple mode (greatest_level v s) (level_of v facts)) call.mode) a)) (alike.facts request.path h)
+  above_greatest-seen call request (Some number) h = refl
+
+  raised-seen : (number : ℕ) → dominates (level_at v.fixed.levels number) (current_level v s) ≡ dominates (level_at v.fixed.levels number) (current_level w s)
+  raised-seen number = ap (λ n. dominates (level_at v.fixed.levels number) (level_at v.fixed.levels n)) (alike.current s seen)
+
+  wrong_current-seen : (call : KernelCall) (request : Request) (raised : Option ℕ) → shows level v request.path ≡ true →
+      is_wrong_current v s call request raised ≡ is_wrong_current w s call request raised
+  wrong_current-seen call request None h = λ i.
+      not (passes (λ facts. by_mode (λ mode. is_star mode (level_at v.fixed.levels (alike.current s seen i)) (level_of v facts)) call.mode) (alike.facts request.path h i))
+  wrong_current-seen call request (Some number) h = ap not (raised-seen number)
+
   plain-seen : (call : KernelCall) (request : Request) {cause : CallCause} → Plain cause → shows level v request.path ≡ true → fails v s call request cause ≡ fails w s call request cause
   plain-seen call request plain_object h = ap is_none (alike.facts request.path h)
   plain-seen call request plain_kind h =
@@ -67,15 +85,26 @@ module _ (level : Level) (v w0 : State) (sv : Secure v) (sw : Secure (fixed_to v
   plain-seen call request plain_root h = refl
   plain-seen call request plain_parent h = ap not (alike.holds_same s (parent request.path) Write seen)
   plain-seen call request plain_row h = ap (λ a. not (passes (λ facts. is_within (call.modes request) (in_row facts.row s)) a)) (alike.facts request.path h)
-  plain-seen call request plain_greatest h =
-      ap (λ a. not (passes (λ facts. by_mode (λ mode. is_simple mode (greatest_level v s) (level_of v facts)) call.mode) a)) (alike.facts request.path h)
-  plain-seen call request plain_current h =
-      ap (λ a. not (passes (λ facts. by_mode (λ mode. is_star mode (current_level v s) (level_of v facts)) call.mode) a)) (alike.facts request.path h)
+  plain-seen call request plain_greatest h = above_greatest-seen call request (call.raises request) h
+  plain-seen call request plain_current h = wrong_current-seen call request (call.raises request) h
   plain-seen call request plain_level h =
       ap (λ a. not (passes (λ above. dominates (level_at v.fixed.levels request.level) (level_of v above)) a)) (alike.facts (parent request.path) (shows_parent level v sv request.path h))
   plain-seen call request plain_taken h = ap is_some (alike.facts request.path h)
   plain-seen call request plain_held h = ap not (held-seen level v w0 sv sw alike s seen request.path call.needs)
   plain-seen call request plain_long h = ap (λ a. not (passes (λ facts. nat_lt (register request 3) (bytes_of_block * facts.blocks)) a)) (alike.facts request.path h)
+
+  -- whether what the caller holds may be held at the level with that number
+  may_put-seen : (number : ℕ) (path : Path) (mode : AccessMode) → holds v s path mode ≡ true →
+      passes (may_put v number mode) (facts_at v path) ≡ passes (may_put v number mode) (facts_at w path)
+  may_put-seen number path mode held = ap (passes (may_put v number mode)) (alike.facts path (held_shows level v s seen sv path mode held))
+
+  may_rise-seen : (number : ℕ) → may_rise v s number ≡ may_rise w s number
+  may_rise-seen number = both_ways _ _
+      (λ rises. may_rise-from w s number (λ path mode held.
+      let before : holds v s path mode ≡ true = alike.holds_same s path mode seen ∙ held in
+      sym (may_put-seen number path mode before) ∙ held_may_rise v s number rises path mode before))
+      (λ rises. may_rise-from v s number (λ path mode held.
+      may_put-seen number path mode held ∙ held_may_rise w s number rises path mode (sym (alike.holds_same s path mode seen) ∙ held)))
 
   -- whether a new object has room
   room-seen : (request : Request) → is_root request.path ≡ false → is_named v s request.path ≡ true → has_room v request ≡ has_room w request
@@ -169,6 +198,10 @@ module _ (level : Level) (v w0 : State) (sv : Secure v) (sw : Secure (fixed_to v
       plain_then h plain_object (λ _. plain_then h plain_kind (λ _. plain_then h plain_held
       (λ held. agree_then (ap is_none (child-seen request.path (register request 3) (held_to_read request.path held))) (λ _. agree_none _ _)))))))
 
+  raise_level_agrees : (request : Request) → Agrees raise_level request raise_level.checks
+  raise_level_agrees request = agree_then refl (λ _. agree_then refl (λ _. agree_then (ap not (raised-seen (register request 3)))
+      (λ _. agree_then (ap not (may_rise-seen (register request 3))) (λ _. agree_none _ _))))
+
   agrees : (call : Call) (request : Request) → Agrees (definition_of call) request (definition_of call).checks
   agrees (ByRule GetRead) request = path_named get_read request _ (plain_object, (plain_kind, (plain_row, (plain_greatest, (plain_current, tt)))))
   agrees (ByRule GetAppend) request = path_named get_append request _ (plain_object, (plain_kind, (plain_row, (plain_current, tt))))
@@ -179,6 +212,7 @@ module _ (level : Level) (v w0 : State) (sv : Secure v) (sw : Secure (fixed_to v
   agrees (ByRule Rescind) request = argument_named rescind request _ refl (plain_object, (plain_kind, (plain_root, (plain_parent, tt))))
   agrees (ByRule Create) request = create_agrees request
   agrees (ByRule DeleteGroup) request = path_named delete_group request _ (plain_object, (plain_root, (plain_parent, tt)))
+  agrees (ByRule RaiseLevel) request = raise_level_agrees request
   agrees (Other Window) request = argument_named window request _ refl (plain_object, (plain_kind, (plain_held, tt)))
   agrees (Other Unwindow) request = agree_then refl (λ _. agree_none _ _)
   agrees (Other Deposit) request = argument_named deposit request _ refl (plain_object, (plain_kind, (plain_held, (plain_long, tt))))

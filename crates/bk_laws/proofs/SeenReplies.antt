@@ -11,9 +11,9 @@ use Rattle.bk_state.specs.declared.call.Call.{Call}
 use Rattle.bk_state.specs.declared.call.Call.TheVariants.{ByRule, Other}
 use Rattle.bk_state.specs.declared.call.Service.TheVariants.{Window, Unwindow, Deposit, Send, Receive, LineOut, LineIn, Entry, Identify, Quota}
 use Rattle.bk_state.specs.declared.call.Service.TheVariants.{Pause, SetFaultEntry, Stop}
-use Rattle.bk_state.specs.declared.rule.Rule.TheVariants.{GetRead, GetAppend, GetExecute, GetWrite, Release, Give, Rescind, Create, DeleteGroup}
+use Rattle.bk_state.specs.declared.rule.Rule.TheVariants.{GetRead, GetAppend, GetExecute, GetWrite, Release, Give, Rescind, Create, DeleteGroup, RaiseLevel}
 use Rattle.bk_state.specs.declared.cause.CallCause.TheVariants.{WrongKind}
-use Rattle.bk_state.specs.State.{State, Object, Children, find, facts_at}
+use Rattle.bk_state.specs.State.{State, Object, Children, find, facts_at, clearance_of}
 use Rattle.bk_state.specs.Secure.{Secure}
 use Rattle.bk_state.specs.Request.{Request, register, request_in}
 use Rattle.bk_state.specs.TellingCalls.{child_at, entry_values, entry, quota}
@@ -120,7 +120,12 @@ module _ (level : Level) (v w0 : State) (sv : Secure v) (sw : Secure (fixed_to v
   each_told (Other LineIn) request none = line_in-told request none
   each_told (Other Entry) request none = entry-told request none
   each_told (Other Quota) request none = quota-told request none
-  -- these tell nothing of the state but the caller's number and levels
+  -- this one tells the caller's levels
+  each_told (Other Identify) request none = record {
+    gives = ap (λ n. 0 ∷ 0 ∷ s ∷ n ∷ (clearance_of v s).greatest ∷ []) (alike.current s seen);
+    sends = refl;
+  }
+  -- these tell nothing of the state
   each_told (ByRule GetRead) request none = record { gives = refl; sends = refl }
   each_told (ByRule GetAppend) request none = record { gives = refl; sends = refl }
   each_told (ByRule GetExecute) request none = record { gives = refl; sends = refl }
@@ -130,11 +135,11 @@ module _ (level : Level) (v w0 : State) (sv : Secure v) (sw : Secure (fixed_to v
   each_told (ByRule Rescind) request none = record { gives = refl; sends = refl }
   each_told (ByRule Create) request none = record { gives = refl; sends = refl }
   each_told (ByRule DeleteGroup) request none = record { gives = refl; sends = refl }
+  each_told (ByRule RaiseLevel) request none = record { gives = refl; sends = refl }
   each_told (Other Window) request none = record { gives = refl; sends = refl }
   each_told (Other Unwindow) request none = record { gives = refl; sends = refl }
   each_told (Other Deposit) request none = record { gives = refl; sends = refl }
   each_told (Other Send) request none = record { gives = refl; sends = refl }
-  each_told (Other Identify) request none = record { gives = refl; sends = refl }
   each_told (Other Pause) request none = record { gives = refl; sends = refl }
   each_told (Other SetFaultEntry) request none = record { gives = refl; sends = refl }
   each_told (Other Stop) request none = record { gives = refl; sends = refl }

@@ -1,8 +1,10 @@
 -- A turn of a subject under a level leaves the same under the level, and tells the same, in two secure states in which the
 -- same lies under it.
-use Rattle.std.proofs.Common.{◌≡◌, ℕ, Bool, true, false, ◌&&◌, not, List, ◌∷◌, Option, Some, None, refl, sym, ap, ◌∙◌, subst, ◌==◌}
+use Rattle.std.proofs.Common.{◌≡◌, ℕ, Bool, true, false, ◌&&◌, not, List, ◌∷◌, Option, Some, None, refl, sym, ap, ◌∙◌, subst, ◌==◌, ◌<◌, nat_lt, length, arith}
+use Rattle.std.proofs.lemmas.Bool.Decides.{nat_tests}
 use Rattle.std.specs.Prelude.{slice_get, slice_set, slice_index}
-use Rattle.bk_level.specs.Levels.{Level}
+use Rattle.bk_level.specs.Levels.{Level, dominates}
+use Rattle.bk_level.proofs.LevelOrder.{and_first}
 use Rattle.bk_path.specs.Paths.{Path}
 use Rattle.bk_space.specs.AddrSpace.{Write, write_at, applied, page_number}
 use Rattle.bk_space.specs.declared.reference.Mode.TheVariants.{Supervisor}
@@ -15,16 +17,15 @@ use Rattle.bk_process.specs.declared.process.Process.{Process}
 use Rattle.bk_process.specs.declared.status.Status9.{Status9}
 use Rattle.bk_process.specs.declared.status.Status9.TheVariants.{Running, Paused, Stopped}
 use Rattle.bk_report.specs.declared.ReportItem.TheVariants as items
-use Rattle.bk_state.specs.State.{State, process_of}
+use Rattle.bk_state.specs.State.{State, process_of, current_level}
 use Rattle.bk_state.specs.Secure.{Secure}
 use Rattle.bk_state.specs.RowCalls.{changed_at}
-use Rattle.bk_state.specs.Answers.{Called, called}
+use Rattle.bk_state.specs.Answers.{Called, called, level_after}
 use Rattle.bk_state.specs.Contents.{with_contents}
 use Rattle.bk_system.specs.Turn.{stored_in, written_by, written, with_process, byte_item, settled, fault_number, is_user, less, completes}
 use Rattle.bk_system.specs.Turn.{is_reflected, entered, with_pushes, faulted, ended, executed, turn_by, turn_of_process, turn_of}
 use Rattle.bk_state.specs.Causes.{answer_in, cause_in}
-use Rattle.bk_laws.proofs.Changes.{moved, status_push, counter_push, changed_at-is}
-use Rattle.bk_system.proofs.FixedPart.{applied-fixed}
+use Rattle.bk_laws.proofs.Changes.{moved, status_push, counter_push, changed_at-is, applied-is}
 use Rattle.bk_state.specs.Low.{is_subject_under, low}
 use Rattle.bk_system.specs.declared.at.At.{At}
 use Rattle.bk_system.specs.Space.{space_of}
@@ -32,7 +33,7 @@ use Rattle.bk_system.specs.Step.{Step}
 use Rattle.bk_laws.proofs.Alike.{Alike, fixed_to, low_from_alike, alike_from_low}
 use Rattle.bk_laws.proofs.SecureContents.{secure_written, secure_applied, secure_with_pushes}
 use Rattle.bk_laws.proofs.SeenSpace.{space-seen}
-use Rattle.bk_laws.proofs.SeenAccess.{alike-with_process}
+use Rattle.bk_laws.proofs.SeenAccess.{alike-with_process, alike-with_current}
 use Rattle.bk_laws.proofs.SeenObjects.{alike-with_contents}
 use Rattle.bk_laws.proofs.SeenCalls.{CalledAlike, called-seen}
 
@@ -63,11 +64,11 @@ unfolding written
 written-alike level v w alike windows x = by (slice_get windows (page_number x.mode x.space x.addr))
   where
     by : (shown : Option (Option Path)) → low level (written_by v x shown) ≡ low level (written_by (fixed_to v.fixed w) x shown)
-    by None = low_from_alike level v _ _ _ alike
-    by (Some None) = low_from_alike level v _ _ _ alike
+    by None = low_from_alike level v _ _ _ _ alike
+    by (Some None) = low_from_alike level v _ _ _ _ alike
     by (Some (Some path)) =
         ap (low level) (changed_at-is v path (with_contents (stored_in x)))
-        ∙ low_from_alike level (record v { objects = (changed_at v path (with_contents (stored_in x))).objects }) _ _ _ (alike-with_contents level v w alike path (stored_in x))
+        ∙ low_from_alike level (record v { objects = (changed_at v path (with_contents (stored_in x))).objects }) _ _ _ _ (alike-with_contents level v w alike path (stored_in x))
         ∙ sym (ap (low level) (changed_at-is (fixed_to v.fixed w) path (with_contents (stored_in x))))
 
 module _ (level : Level) where
@@ -89,7 +90,7 @@ module _ (level : Level) where
 
   process-low : (v w : State) → Secure v → Secure w → low level v ≡ low level w → (s : ℕ) (p : Process) → low level (with_process v s p) ≡ low level (with_process w s p)
   process-low v w sv sw same s p = from_alike level v w (λ u. low level (with_process v s p) ≡ low level (with_process u s p)) sv sw same
-      (λ secure alike. low_from_alike level (with_process v s p) _ _ _ (alike-with_process level v w alike s p))
+      (λ secure alike. low_from_alike level (with_process v s p) _ _ _ _ (alike-with_process level v w alike s p))
 
   -- ---- kernel calls
 
@@ -97,11 +98,19 @@ module _ (level : Level) where
       (p : Process) (number references : ℕ) (a b : Called) → CalledAlike level v w sv sw alike at.subject seen a b →
       SameStep level (settled v at p number references a) (settled (fixed_to v.fixed w) at p number references b)
   settled-alike v w sv sw alike at seen p number references a b same = record {
-    state = low_from_alike level (moved v a.objects a.access (slice_set v.processes at.subject a.process)) _ _ _
-        (alike-with_process level (moved v a.objects a.access v.processes) (moved v b.objects b.access w.processes) same.left at.subject a.process)
-        ∙ ap (λ q. low level (moved v b.objects b.access (slice_set w.processes at.subject q))) same.process;
+    state = low_from_alike level (moved v (slice_set v.current at.subject (level_after v at.subject a.raised)) a.objects a.access (slice_set v.processes at.subject a.process)) _ _ _ _
+        (alike-with_process level (moved v (slice_set v.current at.subject (level_after v at.subject a.raised)) a.objects a.access v.processes) (moved v (slice_set w.current at.subject (level_after v at.subject a.raised)) b.objects b.access w.processes)
+        (alike-with_current level (moved v v.current a.objects a.access v.processes) (moved v w.current b.objects b.access w.processes) same.left at.subject (level_after v at.subject a.raised) seen (in_v v sv refl) (in_v (fixed_to v.fixed w) sw refl))
+        at.subject a.process)
+        ∙ (λ i. low level (moved v (slice_set w.current at.subject (same.number i)) b.objects b.access (slice_set w.processes at.subject (same.process i))));
     items = λ i. items.Call at.slot at.turn at.subject number p.registers.general (answer_in (same.cause i)) (cause_in (same.cause i)) ∷ byte_item at (same.sent i);
   }
+    where
+      real : nat_lt at.subject (length v.fixed.subjects) ≡ true
+      real = and_first _ (dominates level (current_level v at.subject)) seen
+
+      in_v : (u : State) → Secure u → u.fixed ≡ v.fixed → at.subject < length u.current
+      in_v u sec fixed = let long : length u.current ≡ length v.fixed.subjects = sec.shape.current ∙ ap (λ f. length f.subjects) fixed in grind (arith, nat_tests, real, long)
 
   -- ---- what an instruction ends as
 
@@ -143,7 +152,7 @@ module _ (level : Level) where
     executed-low : (p : Process) (x : Done) → SameStep level (executed v at p x) (executed w at p x)
     executed-low p x = ended-low (applied (written p.windows) v x.write) (applied (written p.windows) w x.write)
         (secure_applied p.windows v x.write sv) (secure_applied p.windows w x.write sw) (applied-low v w sv sw same p.windows x.write) at
-        (ap (λ fixed. is_subject_under level (fixed_to fixed v) at.subject) (applied-fixed p.windows v x.write) ∙ seen)
+        (ap (λ u. is_subject_under level u at.subject) (applied-is p.windows v x.write) ∙ seen)
         (record p { registers = x.regs }) x.references x.outcome
 
     turn_of_process-low : (o : Option Process) → SameStep level (turn_of_process v at o) (turn_of_process w at o)
@@ -163,8 +172,3 @@ module _ (level : Level) where
     pub turn-low : SameStep level (turn_of at v) (turn_of at w)
     unfolding turn_of
     turn-low = subst (λ o. SameStep level (turn_of_process v at (process_of v at.subject)) (turn_of_process w at o)) process-same (turn_of_process-low (process_of v at.subject))
-
--- which is under the level in both
-pub subject-low : (level : Level) (v w : State) → low level v ≡ low level w → (s : ℕ) → is_subject_under level v s ≡ is_subject_under level w s
-unfolding low
-subject-low level v w same s = ap (λ view. is_subject_under level (fixed_to view.fixed v) s) same

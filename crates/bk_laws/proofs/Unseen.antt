@@ -53,6 +53,8 @@ module _ (level : Level) (v : State) (sec : Secure v) where
   -- an object at a path that does not show
   pub alike_insert : (path : Path) (o : Object) → shows level v path ≡ false → is_under level v o.facts ≡ false → Alike level v (with_object_at v path o)
   alike_insert path o hidden high = record {
+    subjects = λ j. refl;
+    current = λ j h. refl;
     process = λ s h. refl;
     holds_same = λ s q mode h. refl;
     shows_same = shows_same;
@@ -94,6 +96,8 @@ module _ (level : Level) (v : State) (sec : Secure v) where
   -- a group whose top does not show goes
   pub alike_without_group : (path : Path) → shows level v path ≡ false → Alike level v (without_group v path)
   alike_without_group path hidden = record {
+    subjects = λ j. refl;
+    current = λ j h. refl;
     process = λ s h. refl;
     holds_same = λ s q mode h. sym (holds-retain v (λ t. not (is_inferior t.1 path)) s q mode ∙ held s q mode h (holds v s q mode) refl (is_inferior q path) refl);
     shows_same = shows_same;
@@ -126,6 +130,8 @@ module _ (level : Level) (v : State) (sec : Secure v) where
   -- what is held of a path that does not show goes
   pub alike_without_triples : (s : ℕ) (path : Path) (modes : Modes) → shows level v path ≡ false → Alike level v (without_triples v s path modes)
   alike_without_triples s path modes hidden = record {
+    subjects = λ j. refl;
+    current = λ j h. refl;
     process = λ j h. refl;
     shows_same = λ q. refl;
     facts = λ q h. refl;
@@ -155,6 +161,8 @@ module _ (level : Level) (v : State) (sec : Secure v) where
     -- it holds something more
     pub alike_with_triple : (path : Path) (mode : AccessMode) → Alike level v (with_triple v s path mode)
     alike_with_triple path mode = record {
+      subjects = λ j. refl;
+      current = λ j h. refl;
       process = λ j h. refl;
       holds_same = λ j q x h. by j q x h (eq_by_cmp triple_cmp (j, q, x) (s, path, mode)) refl ∙ sym (holds-with_triple v s path mode j q x);
       shows_same = λ q. refl;
@@ -169,6 +177,8 @@ module _ (level : Level) (v : State) (sec : Secure v) where
     -- it holds something no more
     pub alike_release : (path : Path) (modes : Modes) → Alike level v (without_triples v s path modes)
     alike_release path modes = record {
+      subjects = λ j. refl;
+      current = λ j h. refl;
       process = λ j h. refl;
       shows_same = λ q. refl;
       facts = λ q h. refl;

@@ -47,13 +47,15 @@ module _ (level : Level) (v : State) (sec : Secure v) (s : ℕ) (real : s < leng
       low level v ≡ low level (with_changes v (changed_by v path (with_row change) o))
   row_changed path change None is hidden = refl
   row_changed path change (Some o) is hidden =
-      low_from_alike level v _ _ _ (alike_insert level v sec path (with_row change o) hidden (high_facts path o is (not_under level v sec path hidden)))
+      low_from_alike level v _ _ _ _ (alike_insert level v sec path (with_row change o) hidden (high_facts path o is (not_under level v sec path hidden)))
 
   -- the row of an object that does not show, and what a subject holds of it
   pub row_rescinded : (path : Path) (j : ℕ) (modes : Modes) (o : Option Object) → find v path ≡ o → shows level v path ≡ false →
       low level v ≡ low level (with_changes v (changed_by (without_triples v j path modes) path (with_row (rescinded j modes)) o))
-  row_rescinded path j modes None is hidden = low_from_alike level v _ _ _ (alike_without_triples level v sec j path modes hidden)
-  row_rescinded path j modes (Some o) is hidden = low_from_alike level v _ _ _ (record {
+  row_rescinded path j modes None is hidden = low_from_alike level v _ _ _ _ (alike_without_triples level v sec j path modes hidden)
+  row_rescinded path j modes (Some o) is hidden = low_from_alike level v _ _ _ _ (record {
+    subjects = λ j. refl;
+    current = λ j h. refl;
     process = λ i h. refl;
     holds_same = triples.holds_same;
     shows_same = shows_same;
@@ -78,7 +80,7 @@ module _ (level : Level) (v : State) (sec : Secure v) (s : ℕ) (real : s < leng
   created request [] root write above = cc
   created request (entry ∷ path) root write above =
       let hidden = hidden_below level v sec s real blind entry path write in
-      low_from_alike level v _ _ _ (alike_insert level v sec (entry ∷ path) (new_object request (level_number v path)) hidden
+      low_from_alike level v _ _ _ _ (alike_insert level v sec (entry ∷ path) (new_object request (level_number v path)) hidden
       (false_if _ (λ under. true≢false (sym (passes_more _ _ (facts_at v path)
       (λ f is d. dominates-trans level (level_at v.fixed.levels request.level) (level_of v f) under d) above) ∙ hidden))))
 
@@ -86,7 +88,7 @@ module _ (level : Level) (v : State) (sec : Secure v) (s : ℕ) (real : s < leng
   pub contents_changed : (path : Path) (change : Contents → Contents) → passes (is_under level v) (facts_at v path) ≡ false →
       low level v ≡ low level (changed_at v path (with_contents change))
   contents_changed path change high =
-      low_from_alike level v _ _ _ (alike_contents level v sec path change high) ∙ sym (ap (low level) (changed_at-is v path (with_contents change)))
+      low_from_alike level v _ _ _ _ (alike_contents level v sec path change high) ∙ sym (ap (low level) (changed_at-is v path (with_contents change)))
 
   pub contents_by_call : (path : Path) (change : Contents → Contents) → passes (is_under level v) (facts_at v path) ≡ false →
       low level v ≡ low level (with_changes v (changed_at v path (with_contents change)))

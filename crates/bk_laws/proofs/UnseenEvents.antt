@@ -52,7 +52,7 @@ module _ (level : Level) (v : State) (line : ℕ) (bytes : List ℕ) (sec : Secu
 
   unseen_arrived : low level v ≡ low level (arrived v line bytes)
   unfolding arrived
-  unseen_arrived = low_from_alike level v _ _ _ (alike-contents level v v (alike_itself level v) v.objects _ (λ q. refl) (facts_at-arrived v line bytes)
+  unseen_arrived = low_from_alike level v _ _ _ _ (alike-contents level v v (alike_itself level v) v.objects _ (λ q. refl) (facts_at-arrived v line bytes)
       (λ q. contents_taking q (find v q) refl ∙ sym (ap (contents_under level v) (find-arrived v line bytes q))))
 
 -- the law

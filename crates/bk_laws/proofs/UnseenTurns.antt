@@ -1,7 +1,7 @@
 -- No turn of a subject that is not under a level changes what lies under it, or gives an item of it.
 use Rattle.std.proofs.Common.{◌≡◌, ◌≢◌, ℕ, ◌<◌, Bool, true, false, ◌&&◌, not, List, [], ◌∷◌, length, Option, Some, None, refl, sym, ap, ◌∙◌, subst}
-use Rattle.std.proofs.Common.{cond, ◌==◌, arith}
-use Rattle.std.specs.Prelude.{slice_get, slice_index}
+use Rattle.std.proofs.Common.{cond, ◌==◌, arith, true≢false}
+use Rattle.std.specs.Prelude.{slice_get, slice_index, slice_set}
 use Rattle.bk_level.specs.Levels.{Level}
 use Rattle.bk_path.specs.Paths.{Path}
 use Rattle.bk_object.specs.Modes.{Write as ByWrite}
@@ -21,11 +21,11 @@ use Rattle.bk_report.specs.declared.ReportItem.{ReportItem}
 use Rattle.bk_report.specs.declared.ReportItem.TheVariants as items
 use Rattle.bk_state.specs.State.{State, holds, process_of}
 use Rattle.bk_state.specs.Secure.{Secure}
-use Rattle.bk_state.specs.Answers.{Called, called}
+use Rattle.bk_state.specs.Answers.{Called, called, level_after}
 use Rattle.bk_system.specs.Turn.{stored_in, written_by, written, with_process, byte_item, settled, fault_number, less, is_user, is_writable}
 use Rattle.bk_system.specs.Turn.{is_reflected, entered, with_pushes, faulted, ended, executed, turn_by, turn_of_process, turn_of}
 use Rattle.bk_laws.specs.Seen.{seen_items}
-use Rattle.bk_laws.proofs.Changes.{slice_get-set_other, status_push, counter_push, written-is}
+use Rattle.bk_laws.proofs.Changes.{slice_get-set_other, status_push, counter_push, written-is, applied-is}
 use Rattle.bk_system.proofs.FixedPart.{applied-fixed}
 use Rattle.bk_state.specs.Low.{is_subject_under, low}
 use Rattle.bk_system.specs.declared.at.At.{At}
@@ -34,7 +34,7 @@ use Rattle.bk_system.specs.Step.{Step, nothing}
 use Rattle.bk_laws.proofs.SeenItems.{items_by}
 use Rattle.bk_laws.proofs.SecureContents.{secure_written}
 use Rattle.bk_laws.proofs.SecureProcesses.{process_subject}
-use Rattle.bk_laws.proofs.Alike.{low_from_alike}
+use Rattle.bk_laws.proofs.Alike.{low_from_alike, subject-low}
 use Rattle.bk_laws.proofs.Unseen.{other_subject, high_written}
 use Rattle.bk_laws.proofs.UnseenChanges.{contents_changed}
 use Rattle.bk_laws.proofs.UnseenCalls.{CallsUnseen, unseen_called}
@@ -43,7 +43,9 @@ use Rattle.bk_laws.proofs.Writes.{allowed_held, completes_held}
 -- ---- the process of a subject
 
 unseen_process : (level : Level) (v : State) (s : ℕ) (p : Process) → ((j : ℕ) → is_subject_under level v j ≡ true → j ≢ s) → low level v ≡ low level (with_process v s p)
-unseen_process level v s p other = low_from_alike level v _ _ _ (record {
+unseen_process level v s p other = low_from_alike level v _ _ _ _ (record {
+  subjects = λ j. refl;
+  current = λ j h. refl;
   process = λ j h. sym (slice_get-set_other v.processes s p j (other j h));
   holds_same = λ j q mode h. refl;
   shows_same = λ q. refl;
@@ -88,7 +90,7 @@ module _ (level : Level) (at : At) where
   unseen_after_write v windows w subject = record {
     secure = secure_written windows v w subject.secure;
     real = subst (λ f. s < length f.subjects) (sym (applied-fixed windows v (Some w))) subject.real;
-    blind = ap (λ f. is_subject_under level (record v { fixed = f }) s) (applied-fixed windows v (Some w)) ∙ subject.blind;
+    blind = ap (λ u. is_subject_under level u s) (written-is windows v w) ∙ subject.blind;
   }
 
   unseen_applied : (v : State) (windows : List (Option Path)) (w : Option Write) → IsUnseen v → IsAllowed (space_of v s windows) w → low level v ≡ low level (applied (written windows) v w)
@@ -126,11 +128,17 @@ module _ (level : Level) (at : At) where
   unseen_fault_item v number pc reflected subject = ap (λ b. cond b (items.Fault at.slot at.turn at.subject number pc reflected ∷ []) []) subject.blind
 
   unseen_settled : (v : State) (p : Process) (number references : ℕ) (call : Called) → IsUnseen v →
-      CallsUnseen level v at call → StepUnseen level v (settled v at p number references call)
+      CallsUnseen level v s at call → StepUnseen level v (settled v at p number references call)
   unseen_settled v p number references call subject unseen = record {
-    state = unseen.state ∙ unseen_process level (record v { objects = call.objects; access = call.access }) s call.process (other_subject level v subject.secure s subject.real subject.blind);
+    state = unseen.state ∙ unseen_process level left s call.process still_other;
     items = unseen_call_item v number _ _ p.registers.general (byte_item at call.sent) subject unseen.byte;
   }
+    where
+      left : State
+      left = record v { objects = call.objects; access = call.access; current = slice_set v.current s (level_after v s call.raised) }
+
+      still_other : (j : ℕ) → is_subject_under level left j ≡ true → j ≢ s
+      still_other j h at = true≢false (sym h ∙ ap (is_subject_under level left) at ∙ sym (subject-low level v left unseen.state s) ∙ subject.blind)
 
   -- what a test of four says of the last two
   last_two : (a b c d : Bool) → (a && b && c && d) ≡ true → (c ≡ true) × (d ≡ true)
@@ -169,7 +177,7 @@ module _ (level : Level) (at : At) where
       let step = unseen_ended after (record p { registers = x.regs }) x.references x.outcome (unseen_after_instruction v p.windows x.write subject) in
       record {
         state = unseen_applied v p.windows x.write subject allowed ∙ step.state;
-        items = sym (items_by level after v (applied-fixed p.windows v x.write) (executed v at p x).items) ∙ step.items;
+        items = sym (items_by level after v (applied-fixed p.windows v x.write) (λ j. ap (λ u. is_subject_under level u j) (applied-is p.windows v x.write)) (executed v at p x).items) ∙ step.items;
       }
 
   unseen_turn_by : (v : State) (p : Process) (status : Status9) → IsUnseen v → StepUnseen level v (turn_by v at p status)

@@ -37,16 +37,17 @@ example_objects =
     ∷ (0 ∷ 6 ∷ [], record { facts = facts_with Mailbox 1 0; contents = Messages [] 0 })
     ∷ []
 
--- two subjects, one at each level; the higher holds write on the empty mailbox
+-- two subjects, one at each level, of which the lower may raise its own; each holds root by read
 abbrev pub example : State
 example = record {
   fixed = record {
     levels = lowest ∷ higher ∷ [];
-    subjects = record { greatest = 0; current = 0 } ∷ record { greatest = 1; current = 1 } ∷ [];
+    subjects = 1 ∷ 1 ∷ [];
     lines = 0 ∷ 1 ∷ [];
     turns = 1;
     schedule = 0 ∷ 1 ∷ [];
   };
+  current = 0 ∷ 1 ∷ [];
   objects = map.from_sorted example_objects;
   access = set.from_list ((0, [], Read) ∷ (1, [], Read) ∷ []);
   processes = only_process ∷ only_process ∷ [];

@@ -8,7 +8,7 @@ use Rattle.bk_system.specs.declared.at.At.{At}
 abbrev pub alternating : Fixed
 alternating = record {
   levels = lowest ∷ [];
-  subjects = record { greatest = 0; current = 0 } ∷ record { greatest = 0; current = 0 } ∷ [];
+  subjects = 0 ∷ 0 ∷ [];
   lines = [];
   turns = 2;
   schedule = 0 ∷ 1 ∷ [];

@@ -1,5 +1,5 @@
 -- A turn: one instruction of a subject, and the kernel call or the reflected fault that it ends as.
-use Rattle.std.specs.Prelude.{ℕ, ◌+◌, ◌-◌, ◌*◌, ◌/◌, ◌%◌, ◌^◌, ◌==◌, Bool, true, false, not, ◌&&◌, if◌then◌else◌}
+use Rattle.std.specs.Prelude.{ℕ, ◌+◌, ◌-◌, ◌%◌, ◌^◌, ◌==◌, Bool, true, false, not, ◌&&◌}
 use Rattle.std.specs.Prelude.{List, [], ◌∷◌, Option, Some, None, slice_get, slice_index, slice_set, Result, Ok, Err}
 use Rattle.bk_space.specs.AddrSpace.{Write, page_number, put, write_at, applied}
 use Rattle.bk_space.specs.Status.{status_of, word_of}
@@ -23,7 +23,7 @@ use Rattle.bk_state.specs.State.{State, Contents, Children, Words, Messages, Typ
 use Rattle.bk_state.specs.Contents.{with_contents}
 use Rattle.bk_state.specs.Causes.{answer_in, cause_in}
 use Rattle.bk_state.specs.RowCalls.{changed_at}
-use Rattle.bk_state.specs.Answers.{Called, called}
+use Rattle.bk_state.specs.Answers.{Called, called, level_after}
 use Rattle.bk_system.specs.declared.at.At.{At}
 use Rattle.bk_system.specs.Space.{space_of}
 use Rattle.bk_system.specs.Step.{Step, nothing}
@@ -63,7 +63,12 @@ byte_item at (Some sent) = items.Byte at.slot at.turn sent.0 sent.1 ∷ []
 -- the state after a call, and its items: the call with R0 to R5 as found, and the byte that went out
 abbrev pub settled : State → At → Process → (number references : ℕ) → Called → Step
 settled v at p number references c = record {
-  state = record v { objects = c.objects; access = c.access; processes = slice_set v.processes at.subject c.process };
+  state = record v {
+    objects = c.objects;
+    access = c.access;
+    current = slice_set v.current at.subject (level_after v at.subject c.raised);
+    processes = slice_set v.processes at.subject c.process;
+  };
   items =
       items.Call at.slot at.turn at.subject number p.registers.general (answer_in c.cause) (cause_in c.cause)
       ∷ byte_item at c.sent;
