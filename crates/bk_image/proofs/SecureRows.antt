@@ -10,8 +10,9 @@ use Rattle.bk_object.specs.declared.facts.Facts.{Facts}
 use Rattle.bk_object.specs.declared.modes.Modes.{Modes}
 use Rattle.bk_path.specs.Paths.{Path}
 use Rattle.bk_state.specs.State.{facts_at as facts_in_state}
-use Rattle.bk_state.specs.Start.{state_of, clearance_from}
+use Rattle.bk_state.specs.Start.{state_of}
 use Rattle.bk_state.specs.declared.image.Image.{Image}
+use Rattle.bk_state.specs.declared.image.SubjectRec.{SubjectRec}
 use Rattle.bk_image.specs.Objects.{objects_in, fits_modes, fits_subjects}
 use Rattle.bk_image.specs.Accepted.{IsAccepted}
 use Rattle.bk_image.proofs.SecureLists.{implied, all_at, zero_of}
@@ -70,6 +71,6 @@ rows_secure image accepted path facts s mode is h =
       there subjects (cases_lt s (length image.subjects)),
     )
   where
-    there : fits_subjects (length image.subjects) facts.row ≡ true → (s < length image.subjects) ⊎ (length image.subjects ≤ s) → s < length (map clearance_from image.subjects)
-    there fits (inl lt) = omega (arith, length-map image.subjects clearance_from)
+    there : fits_subjects (length image.subjects) facts.row ≡ true → (s < length image.subjects) ⊎ (length image.subjects ≤ s) → s < length (map (λ (x : SubjectRec). x.f_s) image.subjects)
+    there fits (inl lt) = omega (arith, length-map image.subjects (λ (x : SubjectRec). x.f_s))
     there fits (inr le) = absurd (cc (sym h ∙ past_subjects (length image.subjects) facts.row s mode fits le))

@@ -1,9 +1,9 @@
--- The rows and the processes of the state of an accepted image have all their places, and no two levels of its list are one.
-use Rattle.std.proofs.Common.{◌≡◌, ℕ, true, false, ◌==◌, List, [], ◌∷◌, ◌++◌, length, refl, sym, ap, subst, append_assoc, arith}
+-- The current levels, the rows and the processes of the state of an accepted image have all their places, and no two levels of its list are one.
+use Rattle.std.proofs.Common.{◌≡◌, ℕ, true, false, ◌==◌, List, [], ◌∷◌, ◌++◌, ◌∙◌, length, nat_lt, refl, sym, ap, subst, append_assoc, arith}
 use Rattle.std.specs.List.{IsDistinct}
 use Rattle.std.proofs.lemmas.Bool.{and_from}
 use Rattle.std.proofs.lemmas.Bool.Decides.{nat_tests}
-use Rattle.std.proofs.lemmas.List.{append-nil}
+use Rattle.std.proofs.lemmas.List.{append-nil, length-map}
 use Rattle.std.proofs.lemmas.List.FromFn.{length-map-range_with_len}
 use Rattle.bk_level.specs.Levels.{Level, has_level, is_same_level}
 use Rattle.bk_level.proofs.TableLemmas.{IsDistinct-append}
@@ -13,10 +13,11 @@ use Rattle.bk_process.specs.NewProcess.{windows_of_process}
 use Rattle.bk_state.specs.Secure.{HasShape, is_whole}
 use Rattle.bk_state.specs.Start.{state_of, process_from, windows_from, shown_in}
 use Rattle.bk_state.specs.declared.image.Image.{Image}
+use Rattle.bk_state.specs.declared.image.SubjectRec.{SubjectRec}
 use Rattle.bk_state.specs.declared.image.WindowRec.{WindowRec}
 use Rattle.bk_image.specs.Objects.{objects_in}
 use Rattle.bk_image.specs.Accepted.{IsAccepted}
-use Rattle.bk_image.proofs.SecureLists.{all_mapped}
+use Rattle.bk_image.proofs.SecureLists.{all_mapped, not_false}
 use Rattle.bk_image.proofs.SecureFound.{found_facts}
 
 -- ---- levels
@@ -40,7 +41,7 @@ pub distinct_secure : (image : Image) → IsAccepted image → IsDistinct is_sam
 unfolding state_of
 distinct_secure image accepted = distinct_from [] image.levels none_distinct (λ front level tail whole. (accepted.levels front level tail whole).1.0)
 
--- ---- rows and processes
+-- ---- current levels, rows and processes
 
 same_number : (n m : ℕ) → n ≡ m → (n == m) ≡ true
 same_number n m e = grind (arith, nat_tests, e)
@@ -52,6 +53,10 @@ windows_all windows = length-map-range_with_len (shown_in windows) 0 windows_of_
 pub shape_secure : (image : Image) → IsAccepted image → HasShape (state_of image)
 unfolding state_of objects_in
 shape_secure image accepted = record {
+  current = length-map image.subjects (λ (s : SubjectRec). s.f_c) ∙ sym (length-map image.subjects (λ (s : SubjectRec). s.f_s));
+  listed =
+      all_mapped (λ level. nat_lt level (length image.levels)) (λ (s : SubjectRec). s.f_c) image.subjects
+      (λ subject at. not_false _ (accepted.subjects at.front subject at.tail at.whole).1.0);
   rows = λ path facts is.
       let f = found_facts image.objects path facts is in
       subst (λ (x : Facts). length x.row ≡ most_subjects) f.facts_are (accepted.places.rows f.stands.front f.o f.stands.tail f.stands.whole);

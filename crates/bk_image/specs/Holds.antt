@@ -1,5 +1,5 @@
 -- Holds: by which modes a subject holds an object at the start.
-use Rattle.std.specs.Prelude.{ℕ, Bool, true, not, ◌&&◌, ◌||◌, ◌==◌, nat_lt, List, [], ◌∷◌, length, map, slice_index_or, Option, Some, None, is_none}
+use Rattle.std.specs.Prelude.{ℕ, Bool, true, not, ◌&&◌, ◌||◌, ◌==◌, nat_lt, List, [], ◌∷◌, length, map, slice_index, Option, Some, None, is_none}
 use Rattle.std.specs.Ordering.{is_lt}
 use Rattle.bk_level.specs.Levels.{Level, dominates, level_at}
 use Rattle.bk_path.specs.Paths.{Path, path_cmp, is_root, parent}
@@ -9,10 +9,8 @@ use Rattle.bk_object.specs.Modes.{AccessMode, Read, Execute, Write, Append, has,
 use Rattle.bk_object.specs.declared.modes.Modes.{Modes}
 use Rattle.bk_quota.specs.Charges.{passes}
 use Rattle.bk_state.specs.Allowed.{is_simple, is_star}
-use Rattle.bk_state.specs.Start.{clearance_from}
 use Rattle.bk_state.specs.declared.image.Hold.{Hold}
 use Rattle.bk_state.specs.declared.image.SubjectRec.{SubjectRec}
-use Rattle.bk_state.specs.declared.clearance.Clearance.{Clearance}
 use Rattle.bk_image.specs.declared.fault.ImageField.TheVariants as field
 use Rattle.bk_image.specs.Parts.{Rest, Reads, Check, checked, last, is_outside}
 use Rattle.bk_image.specs.Numbers.{byte, path_in, path_at}
@@ -27,17 +25,13 @@ abbrev pub hold_follows : Option Hold → Hold → Bool
 hold_follows None hold = true
 hold_follows (Some last) hold = nat_lt last.subject hold.subject || last.subject == hold.subject && is_lt (path_cmp last.path hold.path)
 
--- the numbers of the subject's greatest and its current level
-abbrev pub clearance_in : List SubjectRec → ℕ → Clearance
-clearance_in subjects n = slice_index_or (map clearance_from subjects) n (record { greatest = 0; current = 0 })
-
 -- the subject's greatest level
 abbrev pub greatest_in : List Level → List SubjectRec → ℕ → Level
-greatest_in levels subjects n = level_at levels (clearance_in subjects n).greatest
+greatest_in levels subjects n = level_at levels (slice_index (map (λ (s : SubjectRec). s.f_s) subjects) n)
 
 -- its current level
 abbrev pub current_in : List Level → List SubjectRec → ℕ → Level
-current_in levels subjects n = level_at levels (clearance_in subjects n).current
+current_in levels subjects n = level_at levels (slice_index (map (λ (s : SubjectRec). s.f_c) subjects) n)
 
 -- each mode of the set passes the test
 abbrev pub each_mode : (AccessMode → Bool) → Modes → Bool

@@ -4,14 +4,14 @@ use Rattle.std.specs.Prelude.{All}
 use Rattle.std.proofs.lemmas.List.{length-map}
 use Rattle.std.proofs.lemmas.List.Elements.{All-from_get_or}
 use Rattle.std.proofs.lemmas.List.FromFn.{length-map-range_with_len}
-use Rattle.bk_state.specs.Start.{clearance_from, line_level, process_from, state_of}
+use Rattle.bk_state.specs.Start.{line_level, process_from, state_of}
 use Rattle.bk_state.specs.declared.clearance.Clearance.{Clearance}
 use Rattle.bk_state.specs.declared.image.Image.{Image}
 use Rattle.bk_store.specs.Stored.{Stored}
 use Rattle.bk_image.specs.Accepted.{IsAccepted}
 use Rattle.bk_image.proofs.SecureLists.{lt_of, mapped_at, not_false}
 use Rattle.bk_load.specs.declared.beginning.Beginning.{Beginning}
-use Rattle.bk_load.specs.Beginning.{HasBegun}
+use Rattle.bk_load.specs.Beginning.{clearance_from, HasBegun}
 use Rattle.bk_load.specs.Kept.{IsKept, IsKnown}
 use Rattle.bk_load.specs.Loading.{IsLoaded}
 
@@ -29,7 +29,7 @@ pub start-kept : (image : Image) (store : Stored) (words : List ℕ) (b : Beginn
     IsKept b.clearances.items (length b.lines.items) (length b.processes.items) (length store.levels) store.lines
 unfolding state_of
 start-kept image store words b accepted loaded beside =
-    let clearances : b.clearances.items ≡ map clearance_from image.subjects = beside.subjects in
+    let clearances : b.clearances.items ≡ map clearance_from image.subjects = beside.clearances in
     let levels : store.levels ≡ image.levels = loaded.levels in
     let size : length b.clearances.items ≡ length image.subjects = ap length clearances ∙ length-map image.subjects clearance_from in
     let made : length b.processes.items ≡ length image.subjects = ap length beside.processes ∙ length-map image.subjects process_from in

@@ -4,6 +4,7 @@ use Rattle.std.proofs.Common.{drop, get_or, Option, Some, None, is_none, is_some
 use Rattle.std.proofs.Math.Seq.{take-length}
 use Rattle.std.proofs.lemmas.List.{get_or_default}
 use Rattle.std.proofs.lemmas.List.Folds.{list_any-append}
+use Rattle.std.proofs.lemmas.Simd.{map-map}
 use Rattle.std.specs.Prelude.{option_map, flat_map, All}
 use Rattle.std.specs.List.{list_any}
 use Rattle.std.specs.Ordering.{eq_by_cmp}
@@ -17,6 +18,7 @@ use Rattle.bk_path.specs.Paths.{Path, path_cmp, is_root}
 use Rattle.bk_path.specs.Orders.{path_total, path_apart}
 use Rattle.bk_state.specs.State.{Object, Children, State, Triple, triple_cmp}
 use Rattle.bk_state.specs.Start.{contents_from, object_from, state_of, triples_from}
+use Rattle.bk_state.specs.declared.clearance.Clearance.{Clearance}
 use Rattle.bk_state.specs.declared.image.Hold.{Hold}
 use Rattle.bk_state.specs.declared.image.Image.{Image}
 use Rattle.bk_state.specs.declared.image.ObjectRec.{ObjectRec}
@@ -30,7 +32,8 @@ use Rattle.bk_store.specs.Stored.{Entry, NoQueue, Stored, begun, object_of, obje
 use Rattle.bk_store.proofs.Stands.{get-objects_of}
 use Rattle.bk_store.proofs.Triples.{triple_apart}
 use Rattle.bk_load.specs.declared.beginning.Beginning.{Beginning}
-use Rattle.bk_load.specs.Beginning.{HasBegun}
+use Rattle.bk_load.specs.Beginning.{clearance_from, HasBegun}
+use Rattle.bk_load.specs.Kept.{current_levels, greatest_levels}
 use Rattle.bk_load.specs.Loading.{with_holds, CanHold, HasFront, IsLoaded}
 use Rattle.bk_load.proofs.Fronts.{stands_at}
 
@@ -175,7 +178,8 @@ loaded image n v w words whole front held =
 
 abbrev together : Stored → (words : List ℕ) → Beginning → State
 together v words b = record {
-  fixed = record { levels = v.levels; subjects = b.clearances.items; lines = b.lines.items; turns = b.turns; schedule = b.schedule.items };
+  fixed = record { levels = v.levels; subjects = greatest_levels b.clearances.items; lines = b.lines.items; turns = b.turns; schedule = b.schedule.items };
+  current = current_levels b.clearances.items;
   objects = objects_of v words;
   access = v.access;
   processes = b.processes.items;
@@ -187,11 +191,12 @@ unfolding state_of
 all_begun image v words b store beside = λ i. record {
   fixed = record {
     levels = store.levels i;
-    subjects = beside.subjects i;
+    subjects = (ap greatest_levels beside.clearances ∙ map-map (λ (c : Clearance). c.greatest) clearance_from image.subjects) i;
     lines = beside.lines i;
     turns = beside.turns i;
     schedule = beside.schedule i;
   };
+  current = (ap current_levels beside.clearances ∙ map-map (λ (c : Clearance). c.current) clearance_from image.subjects) i;
   objects = store.objects i;
   access = store.access i;
   processes = beside.processes i;

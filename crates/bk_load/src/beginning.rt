@@ -2,8 +2,8 @@
 
 ghost use Rattle.std.specs.Prelude.{◌≡◌, IfOk, map};
 ghost use Rattle.std.specs.List.{range_with_len};
-ghost use Rattle.bk_state.specs.Start.{clearance_from, is_line, line_level, process_from, shown_in, windows_from};
-ghost use Rattle.bk_load.specs.Beginning.{HasBegun};
+ghost use Rattle.bk_state.specs.Start.{is_line, line_level, process_from, shown_in, windows_from};
+ghost use Rattle.bk_load.specs.Beginning.{clearance_from, HasBegun};
 
 use bk_object::Kind;
 use bk_path::Path;

@@ -60,6 +60,7 @@ module _ (v : State) where
 abbrev pub state_in : Stored → List ℕ → State
 state_in store words = record {
   fixed = record { levels = store.levels; subjects = []; lines = []; turns = 0; schedule = [] };
+  current = [];
   objects = objects_of store words;
   access = store.access;
   processes = [];
