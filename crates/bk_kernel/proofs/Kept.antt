@@ -1,8 +1,10 @@
 -- The kernel's state after a change of store and core.
 use Rattle.std.proofs.Common.{◌≡◌, ℕ, zero, suc, ◌+◌, ◌<◌, Bool, true, false, List, [], ◌∷◌, length, get_or, Option, Some, None, refl}
 use Rattle.std.proofs.Common.{sym, ap, subst, ◌∙◌, arith}
-use Rattle.std.specs.Prelude.{if◌then◌else◌, slice_get, slice_set}
-use Rattle.std.proofs.lemmas.List.{get_or_read}
+use Rattle.std.specs.Prelude.{All, if◌then◌else◌, slice_get, slice_index, slice_set, unwrap_or}
+use Rattle.std.proofs.Math.Seq.{map-set_same}
+use Rattle.std.proofs.lemmas.List.{get_or-map, length-map, map-set}
+use Rattle.std.proofs.lemmas.List.Elements.{All-get_or}
 use Rattle.std.proofs.lemmas.Option.{same_Some}
 use Rattle.bk_path.specs.Paths.{Path}
 use Rattle.bk_space.specs.AddrSpace.{Write, applied}
@@ -22,9 +24,10 @@ use Rattle.bk_store.specs.Stands.{StandsFor}
 use Rattle.bk_calls.specs.Made.{seen_by}
 use Rattle.bk_calls.specs.declared.caller.Caller.{Caller}
 use Rattle.bk_calls.proofs.Seen.{clearance-seen, subjects-seen}
+use Rattle.bk_load.specs.Kept.{current_levels, greatest_levels, IsKnown}
 use Rattle.bk_system.specs.Turn.{entered, faulted, less, with_push, with_process, with_pushes, written}
 use Rattle.bk_system.specs.declared.at.At.{At}
-use Rattle.bk_kernel.specs.Tables.{interrupted, served, state_from}
+use Rattle.bk_kernel.specs.Tables.{interrupted, risen, served, state_from}
 use Rattle.bk_pages.proofs.Alike.{written-only}
 
 module _ (clearances : List Clearance) (lines : List ℕ) (turns : ℕ) (schedule : List ℕ) (processes : List Process) (store : Stored) (words : List ℕ) where
@@ -38,7 +41,8 @@ pub kept-changed : (clearances : List Clearance) (lines : List ℕ) (turns : ℕ
     state_from clearances lines turns schedule processes new_store new_words ≡ w
 kept-changed clearances lines turns schedule processes store new_store words new_words v w is only levels objects access =
     (λ i. record {
-      fixed = record { levels = levels i; subjects = clearances; lines = lines; turns = turns; schedule = schedule };
+      fixed = record { levels = levels i; subjects = greatest_levels clearances; lines = lines; turns = turns; schedule = schedule };
+      current = current_levels clearances;
       objects = objects i;
       access = access i;
       processes = processes;
@@ -118,6 +122,33 @@ pub fault-references : (v : State) (at : At) (p : Process) (number references en
 fault-references v at p number references entry true = refl
 fault-references v at p number references entry false = omega arith
 
+-- ---- levels
+
+module _ (clearances : List Clearance) (s : ℕ) (c : Clearance) (below : s < length clearances) (found : c ≡ get_or clearances s c) where
+  -- of a subject that is there, the numbers in the two lists are those of its levels
+  pub greatest-there : c.greatest ≡ slice_index (greatest_levels clearances) s
+  greatest-there = ap (λ (x : Clearance). x.greatest) found ∙ sym (get_or-map (λ (x : Clearance). x.greatest) clearances s c 0 below)
+
+  pub current-there : c.current ≡ slice_index (current_levels clearances) s
+  current-there = ap (λ (x : Clearance). x.current) found ∙ sym (get_or-map (λ (x : Clearance). x.current) clearances s c 0 below)
+
+  -- where it rises, or doesn't, its greatest level stays
+  pub greatest-risen : (level : Option ℕ) → greatest_levels (slice_set clearances s (risen level c)) ≡ greatest_levels clearances
+  greatest-risen level = map-set_same (λ (x : Clearance). x.greatest) clearances s (risen level c) c (ap (λ (x : Clearance). x.greatest) found)
+
+  -- and its current one is the one to which it rises
+  pub current-risen : (level : Option ℕ) →
+      current_levels (slice_set clearances s (risen level c)) ≡ slice_set (current_levels clearances) s (unwrap_or level (slice_index (current_levels clearances) s))
+  current-risen level = map-set (λ (x : Clearance). x.current) clearances s (risen level c) ∙ ap (λ n. slice_set (current_levels clearances) s (unwrap_or level n)) current-there
+
+  -- it is known, if the level to which it rises is
+  pub known-risen : (levels : ℕ) (level : Option ℕ) → All (IsKnown levels) clearances → ((n : ℕ) → level ≡ Some n → n < levels) → IsKnown levels (risen level c)
+  known-risen levels level known listed = by level listed (subst (IsKnown levels) (sym found) (All-get_or (IsKnown levels) clearances s c below known))
+    where
+      by : (o : Option ℕ) → ((n : ℕ) → o ≡ Some n → n < levels) → IsKnown levels c → IsKnown levels (risen o c)
+      by None in_list was = was
+      by (Some n) in_list was = record { greatest = was.greatest; current = in_list n refl }
+
 -- ---- kernel calls
 
 -- what the caller sees of store and core is what it sees of the state
@@ -127,16 +158,39 @@ pub call-alike : (clearances : List Clearance) (lines : List ℕ) (turns : ℕ) 
 call-alike clearances lines turns schedule processes store words v caller p number c is below subjects found greatest current =
     let under : caller.subject < caller.subjects = omega arith in
     called-alike (seen_by caller store words) (state_from clearances lines turns schedule processes store words) caller.subject refl refl refl
-    (clearance-seen caller store words caller.subject under ∙ (λ i. record { greatest = greatest i; current = current i }) ∙ get_or_read clearances caller.subject c below found (record { greatest = 0; current = 0 }))
-    (subjects-seen caller store words ∙ subjects) p number
+    (clearance-seen caller store words caller.subject under ∙ (λ i. record {
+      greatest = (greatest ∙ greatest-there clearances caller.subject c below found) i;
+      current = (current ∙ current-there clearances caller.subject c below found) i;
+    }))
+    (subjects-seen caller store words ∙ subjects ∙ sym (length-map clearances (λ (x : Clearance). x.greatest))) p number
     ∙ ap (λ (x : State). called x caller.subject p number) is
 
-pub served-state : (clearances : List Clearance) (lines : List ℕ) (turns : ℕ) (schedule : List ℕ) (processes : List Process) (store new_store : Stored) (words new_words : List ℕ) (v : State) (s : ℕ) (q : Process) (made : Called) →
+-- the state that is kept after a call, but for the levels
+answered-state : (clearances : List Clearance) (lines : List ℕ) (turns : ℕ) (schedule : List ℕ) (processes : List Process) (store new_store : Stored) (words new_words : List ℕ) (v : State) (s : ℕ) (q : Process) (made : Called) →
     state_from clearances lines turns schedule processes store words ≡ v → new_store.levels ≡ store.levels → objects_of new_store new_words ≡ made.objects → new_store.access ≡ made.access → q ≡ made.process →
-    state_from clearances lines turns schedule (slice_set processes s q) new_store new_words ≡ served v s made
-served-state clearances lines turns schedule processes store new_store words new_words v s q made is levels objects access becomes =
+    state_from clearances lines turns schedule (slice_set processes s q) new_store new_words ≡ with_process (record v { objects = made.objects; access = made.access }) s made.process
+answered-state clearances lines turns schedule processes store new_store words new_words v s q made is levels objects access becomes =
     put-in clearances lines turns schedule processes new_store new_words (record v { objects = made.objects; access = made.access }) s q made.process
     (kept-changed clearances lines turns schedule processes store new_store words new_words v (record v { objects = made.objects; access = made.access }) is refl levels objects access) becomes
+
+-- and with them
+pub served-state : (clearances : List Clearance) (lines : List ℕ) (turns : ℕ) (schedule : List ℕ) (processes : List Process) (store new_store : Stored) (words new_words : List ℕ) (v : State) (s : ℕ) (q : Process)
+    (c : Clearance) (level : Option ℕ) (made : Called) →
+    s < length clearances → c ≡ get_or clearances s c → level ≡ made.raised →
+    state_from clearances lines turns schedule processes store words ≡ v → new_store.levels ≡ store.levels → objects_of new_store new_words ≡ made.objects → new_store.access ≡ made.access → q ≡ made.process →
+    state_from (slice_set clearances s (risen level c)) lines turns schedule (slice_set processes s q) new_store new_words ≡ served v s made
+served-state clearances lines turns schedule processes store new_store words new_words v s q c level made below found told is levels objects access becomes =
+    (λ i. record {
+      fixed = record { levels = new_store.levels; subjects = greatest-risen clearances s c below found level i; lines = lines; turns = turns; schedule = schedule };
+      current = current-risen clearances s c below found level i;
+      objects = objects_of new_store new_words;
+      access = new_store.access;
+      processes = slice_set processes s q;
+    })
+    ∙ (λ i. record (answered i) { current = slice_set (answered i).current s (unwrap_or (told i) (slice_index (answered i).current s)) })
+  where
+    answered : state_from clearances lines turns schedule (slice_set processes s q) new_store new_words ≡ with_process (record v { objects = made.objects; access = made.access }) s made.process
+    answered = answered-state clearances lines turns schedule processes store new_store words new_words v s q made is levels objects access becomes
 
 -- ---- the process in its place
 

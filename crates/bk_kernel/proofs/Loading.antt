@@ -1,18 +1,20 @@
 -- A machine in which a process is loaded, while the tables beside it change.
-use Rattle.std.proofs.Common.{◌≡◌, ◌<◌, ℕ, zero, suc, List, [], ◌∷◌, ◌++◌, take, map, length, get_or, Option, Some, None, refl, sym, ap, subst, ◌∙◌, arith}
+use Rattle.std.proofs.Common.{◌≡◌, ◌<◌, ◌≤◌, ℕ, zero, suc, List, [], ◌∷◌, ◌++◌, take, map, length, get_or, Option, Some, None, refl, sym, ap, subst, ◌∙◌, arith}
 use Rattle.std.specs.Prelude.{option_map, slice_get, slice_set}
 use Rattle.std.specs.List.{range_with_len}
 use Rattle.std.proofs.lemmas.List.{length-map}
+use Rattle.std.proofs.lemmas.List.Elements.{All-set}
 use Rattle.std.proofs.lemmas.Option.{same_Some, slice_get-map, slice_get_within}
 use Rattle.std.specs.FinMap as finite
 use Rattle.bk_base.proofs.MapValues.{get-map_values}
+use Rattle.bk_object.specs.Rows.{most_subjects}
 use Rattle.bk_path.specs.Paths.{Path, path_cmp}
 use Rattle.bk_machine.specs.Machine.{MachineState}
 use Rattle.bk_process.specs.declared.process.Process.{Process}
 use Rattle.bk_state.specs.declared.clearance.Clearance.{Clearance}
 use Rattle.bk_state.specs.State.{State, process_of}
 use Rattle.bk_store.specs.Stored.{Entry, Stored, extent_at, extent_in, typing, with_typed}
-use Rattle.bk_load.specs.Kept.{IsKept}
+use Rattle.bk_load.specs.Kept.{IsKept, IsKnown}
 use Rattle.bk_pages.specs.Pages.{page_for, page_over, pages_for, rights_held}
 use Rattle.bk_pages.specs.StandsFor.{IsLoaded}
 use Rattle.bk_system.specs.Event.{with_resumed}
@@ -101,6 +103,15 @@ has-loaded processes store machine s q at loaded = record {
 -- the tables still fit together once a process is put in its place
 pub kept-set : {clearances : List Clearance} {lines levels places : ℕ} (processes : List Process) (s : ℕ) (q : Process) → IsKept clearances lines (length processes) levels places → IsKept clearances lines (length (slice_set processes s q)) levels places
 kept-set {clearances} {lines} {levels} {places} processes s q kept = subst (λ n. IsKept clearances lines n levels places) (sym (set-length processes s q)) kept
+
+-- and once a subject's levels are others that are known
+pub kept-levels : {lines processes levels places : ℕ} (clearances : List Clearance) (s : ℕ) (c : Clearance) → IsKept clearances lines processes levels places → IsKnown levels c → IsKept (slice_set clearances s c) lines processes levels places
+kept-levels {lines} {processes} {levels} {places} clearances s c kept known = record {
+  few = subst (λ n. n ≤ most_subjects) (sym (set-length clearances s c)) kept.few;
+  processes_are = kept.processes_are ∙ sym (set-length clearances s c);
+  known = All-set (IsKnown levels) clearances s c known kept.known;
+  lines_are = kept.lines_are;
+}
 
 -- so is one that is put there
 pub has-set : (processes : List Process) (store : Stored) (machine : MachineState) (s : ℕ) (q : Process) → s < length processes → IsLoaded machine store s q → HasLoaded (slice_set processes s q) store machine s

@@ -16,7 +16,7 @@ use Rattle.bk_process.specs.declared.process.Process.{Process}
 use Rattle.bk_process.specs.declared.status.Status9.{Status9}
 use Rattle.bk_process.specs.declared.status.Status9.TheVariants.{Running, Paused, Stopped}
 use Rattle.bk_state.specs.State.{State, Object, find, process_of}
-use Rattle.bk_state.specs.Answers.{called}
+use Rattle.bk_state.specs.Answers.{called, level_after}
 use Rattle.bk_state.specs.Contents.{with_contents}
 use Rattle.bk_state.specs.RowCalls.{changed_by}
 use Rattle.bk_state.proofs.AlikeCalls.{called-alike}
@@ -107,7 +107,12 @@ module _ (v : State) (at : At) (p q : Process) (references : ℕ) where
   settled-placed number =
       ap (settled w at p number references) (called-beside v (slice_set v.processes s q) s p number)
       ∙ (λ i. record (settled v at p number references (called v s p number)) {
-        state = record v { objects = (called v s p number).objects; access = (called v s p number).access; processes = set-twice v.processes s q (called v s p number).process i };
+        state = record v {
+          objects = (called v s p number).objects;
+          access = (called v s p number).access;
+          current = slice_set v.current s (level_after v s (called v s p number).raised);
+          processes = set-twice v.processes s q (called v s p number).process i;
+        };
       })
 
   faulted-placed : (number entry : ℕ) (is_taken : Bool) → faulted w at p number references entry is_taken ≡ faulted v at p number references entry is_taken

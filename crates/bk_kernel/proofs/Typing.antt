@@ -12,6 +12,7 @@ use Rattle.bk_state.specs.Start.{is_line}
 use Rattle.bk_state.specs.declared.clearance.Clearance.{Clearance}
 use Rattle.bk_store.specs.Stored.{Stored, Queue, NoQueue, OfMailbox, OfLine, queued, waiting_in, with_input, with_typed}
 use Rattle.bk_store.proofs.Stands.{stands-typed}
+use Rattle.bk_load.specs.Kept.{current_levels, greatest_levels}
 use Rattle.bk_system.specs.Arrivals.{arrived, taking, typed}
 use Rattle.bk_kernel.specs.Tables.{state_from}
 use Rattle.bk_kernel.proofs.Kept.{kept-stands}
@@ -30,7 +31,8 @@ typed-kept clearances lines turns schedule processes store new_store words v lin
     let stands = stands-typed store words (state_from clearances lines turns schedule processes store words) (kept-stands clearances lines turns schedule processes store words same) line byte (typed (byte ∷ [])) (typing-agrees byte) (λ ws. refl) in
     ap (λ (s : Stored). state_from clearances lines turns schedule processes s words) becomes
     ∙ (λ i. record {
-      fixed = record { levels = store.levels; subjects = clearances; lines = lines; turns = turns; schedule = schedule };
+      fixed = record { levels = store.levels; subjects = greatest_levels clearances; lines = lines; turns = turns; schedule = schedule };
+      current = current_levels clearances;
       objects = stands.objects i;
       access = store.access;
       processes = processes;

@@ -1,6 +1,6 @@
 -- What the kernel keeps: the objects and the current access set by store and core, the rest in lists, and a machine in which one
 -- subject is loaded.
-use Rattle.std.specs.Prelude.{◌≡◌, ◌<◌, ℕ, Bool, true, false, List, length, Option, Some, None, slice_get, slice_set, if◌then◌else◌}
+use Rattle.std.specs.Prelude.{◌≡◌, ◌<◌, ℕ, Bool, true, false, List, length, Option, Some, None, slice_get, slice_set, unwrap_or, if◌then◌else◌}
 use Rattle.bk_space.specs.Counts.{counted_on}
 use Rattle.bk_exec.specs.Exec.{exec}
 use Rattle.bk_machine.specs.Machine.{MachineState}
@@ -9,11 +9,11 @@ use Rattle.bk_pages.specs.StandsFor.{IsLoaded}
 use Rattle.bk_process.specs.declared.process.Process.{Process}
 use Rattle.bk_process.specs.declared.status.Status9.{Status9}
 use Rattle.bk_process.specs.declared.status.Status9.TheVariants.{Running, Paused, Stopped}
-use Rattle.bk_state.specs.Answers.{Called}
+use Rattle.bk_state.specs.Answers.{Called, level_after}
 use Rattle.bk_state.specs.State.{State, process_of}
 use Rattle.bk_state.specs.declared.clearance.Clearance.{Clearance}
 use Rattle.bk_store.specs.Stored.{Stored, objects_of}
-use Rattle.bk_load.specs.Kept.{IsKept}
+use Rattle.bk_load.specs.Kept.{current_levels, greatest_levels, IsKept}
 use Rattle.bk_system.specs.Space.{space_of}
 use Rattle.bk_system.specs.Turn.{entered, with_process, with_pushes}
 use Rattle.bk_kernel.specs.declared.tables.Tables.TheInside.{Inside}
@@ -24,11 +24,12 @@ pub record TablesState : Type 0 where
   pub machine : MachineState
   pub loaded : ℕ
 
--- of each subject its numbers of levels; of each line the number of its level; the turns of a slot; the schedule; of each
--- subject its process; and the store with the words of core
+-- of each subject the numbers of its greatest and of its current level; of each line the number of its level; the turns of a
+-- slot; the schedule; of each subject its process; and the store with the words of core
 abbrev pub state_from : List Clearance → (lines : List ℕ) → (turns : ℕ) → (schedule : List ℕ) → List Process → Stored → (words : List ℕ) → State
 state_from clearances lines turns schedule processes store words = record {
-  fixed = record { levels = store.levels; subjects = clearances; lines = lines; turns = turns; schedule = schedule };
+  fixed = record { levels = store.levels; subjects = greatest_levels clearances; lines = lines; turns = turns; schedule = schedule };
+  current = current_levels clearances;
   objects = objects_of store words;
   access = store.access;
   processes = processes;
@@ -52,9 +53,18 @@ pub record AreKept (t : Inside) : Type 0 where
   pub tables : IsKept t.clearances.items (length t.lines.items) (length t.processes.items) (length t.store.levels) t.store.lines
   pub loaded : HasLoaded t.processes.items t.store t.machine t.loaded
 
+-- the levels of a subject with these that rises to that one, if it rises
+abbrev pub risen : Option ℕ → Clearance → Clearance
+risen level c = record c { current = unwrap_or level c.current }
+
 -- the state after a call of a process that came to this
 abbrev pub served : State → (s : ℕ) → Called → State
-served v s c = record v { objects = c.objects; access = c.access; processes = slice_set v.processes s c.process }
+served v s c = record v {
+  objects = c.objects;
+  access = c.access;
+  current = slice_set v.current s (level_after v s c.raised);
+  processes = slice_set v.processes s c.process;
+}
 
 -- the state after a fault that the process takes at its entry, or that stops it
 abbrev pub interrupted : State → (s : ℕ) → Process → (number entry : ℕ) → (is_taken : Bool) → State

@@ -1,6 +1,6 @@
 // The loaded subject on the machine: its instructions, its calls and its faults.
 
-ghost use Rattle.std.specs.Prelude.{◌≡◌, ◌<◌, ◌≤◌, ℕ, Some, length, option_map, slice_index, false, ◌↔◌, if◌then◌else◌};
+ghost use Rattle.std.specs.Prelude.{◌≡◌, ◌<◌, ◌≤◌, ℕ, Some, length, option_map, slice_index, slice_set, false, ◌↔◌, if◌then◌else◌};
 ghost use Rattle.bk_object.specs.Rows.{most_subjects};
 ghost use Rattle.bk_space.specs.Counts.{counted_on};
 ghost use Rattle.bk_exec.specs.declared.event.Event.TheVariants.{Ran};
@@ -13,7 +13,7 @@ ghost use Rattle.bk_system.specs.Turn.{fault_number, is_reflected};
 ghost use Rattle.bk_pages.specs.Pages.{pages_for};
 ghost use Rattle.bk_pages.specs.StandsFor.{IsLoaded, kept_in};
 ghost use Rattle.bk_kernel.specs.Instructions.{HasRun, WentOn};
-ghost use Rattle.bk_kernel.specs.Tables.{interrupted, served, RanNothing};
+ghost use Rattle.bk_kernel.specs.Tables.{interrupted, risen, served, RanNothing};
 
 use crate::tables::Tables;
 use bk_calls::{Caller, Reply, call, changes_pages};
@@ -22,6 +22,7 @@ use bk_machine::{Machine, law_vectors};
 use bk_pages::{Faulted, fault, run, set_pages};
 use bk_process::Process;
 use bk_space::Cause;
+use bk_state::Clearance;
 use bk_store::Store;
 
 /// Instructions that have run: how many, and how the last of them ended. All others ended as ran.
@@ -86,6 +87,24 @@ fn set_changed(machine: &mut Machine, store: &Store, subject: u8, process: &Proc
     }
 }
 
+// The levels of a subject with these that rises to that one, if it rises.
+fn risen(levels: Clearance, level: Option<u8>) -> Clearance
+    ensures { result ≡ risen level levels }
+{
+    Clearance {
+        current: level.unwrap_or(levels.current),
+        ..levels
+    }
+}
+
+// The subject has these levels.
+fn set_levels(clearances: &mut Vec<Clearance>, subject: u8, levels: Clearance)
+    requires { subject < length clearances.old.items }
+    ensures { clearances.new.items ≡ slice_set clearances.old.items subject levels }
+{
+    clearances[subject as usize] = levels;
+}
+
 impl Tables {
     /// The subject is loaded, if another one was. No instruction runs.
     pub(crate) fn load(&mut self, subject: u8)
@@ -125,8 +144,8 @@ impl Tables {
         self.processes[self.loaded as usize].registers.general
     }
 
-    /// A kernel call of the loaded subject, by the registers of its process. Its pages are set anew where the call may have
-    /// changed what one of them shows.
+    /// A kernel call of the loaded subject, by the registers of its process. A level that it rises to is its current one from
+    /// now on; its pages are set anew where the call may have changed what one of them shows.
     pub(crate) fn call(&mut self, number: u8) -> Reply
         ensures state { (p : Process) → process_of self.old.state self.old.loaded ≡ Some p → self.new.state ≡ served self.old.state self.old.loaded (called self.old.state self.old.loaded p number) }
         ensures answer { (p : Process) → process_of self.old.state self.old.loaded ≡ Some p → result.answer ≡ answer_of (called self.old.state self.old.loaded p number).cause }
@@ -145,6 +164,7 @@ impl Tables {
         let process = &mut self.processes[subject as usize];
         let core = self.machine.core_mut();
         let reply = call(&mut self.store, core, process, &caller, number);
+        set_levels(&mut self.clearances, subject, risen(levels, reply.level));
         law_vectors();
         self.machine.set_process(&process.registers);
         let changed = changes_pages(number, reply.answer);
