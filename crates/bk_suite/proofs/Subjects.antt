@@ -4,7 +4,7 @@ use Rattle.std.proofs.lemmas.List.{length-map}
 use Rattle.bk_state.specs.declared.image.Image.{Image}
 use Rattle.bk_state.specs.State.{State, Fixed}
 use Rattle.bk_state.specs.Secure.{Secure}
-use Rattle.bk_state.specs.Start.{state_of, clearance_from}
+use Rattle.bk_state.specs.Start.{state_of}
 use Rattle.bk_system.specs.declared.script.TypedAt.{TypedAt}
 use Rattle.bk_system.specs.Event.{Event, Turn, EndSlot, all_happen, happens}
 use Rattle.bk_system.specs.Slot.{slot_of, slot_events}
@@ -19,7 +19,7 @@ has_process v n s has within = subst (λ m. s < m) (sym (has.secure.processes �
 -- at the start there are those of the image
 begun_secure : (image : Image) → Secure (state_of image) → HasSubjects (state_of image) (length image.subjects)
 unfolding state_of
-begun_secure image secure = record { secure = secure; subjects = length-map image.subjects clearance_from }
+begun_secure image secure = record { secure = secure; subjects = length-map image.subjects (λ s. s.f_s) }
 
 pub begun_kept : (image : Image) (p : Progress) (subjects : List _) (n : ℕ) → p ≡ begun (state_of image) → Secure (state_of image) → subjects ≡ image.subjects → n ≡ length subjects → HasSubjects p.state n
 begun_kept image p subjects n is secure all count =

@@ -7,7 +7,7 @@ use bk_calls::Answer::{No, Unknown, Yes};
 use bk_calls::LineByte;
 use fixture::{System, sample};
 use std::process::Abort;
-use steps::{FIRST, Row, SECOND, answers, sends, step, tells};
+use steps::{FIRST, RISEN, RISING, Row, SECOND, answers, raises, sends, step, tells};
 
 // The words of paths of one entry and of two, the first of them 1.
 const ROOT: u16 = 0o000000;
@@ -72,7 +72,7 @@ const NAMING: [Row; 12] = [
     (FIRST, 0o1, [0, CHILD_1, 0, 0, 0, 0], Yes),
     (FIRST, 0o1, [0, BELOW_1[2], 0, 0, 0, 0], Unknown(25)),
     (FIRST, 0o1, [0, 0o100000, 0, 0, 0, 0], Unknown(21)),
-    (FIRST, 0o27, [0, 0, 0, 0, 0, 0], Unknown(20)),
+    (FIRST, 0o30, [0, 0, 0, 0, 0, 0], Unknown(20)),
     (FIRST, 0, [0, 0, 0, 0, 0, 0], Unknown(20)),
     (FIRST, 0o6, [0, CHILD_0, 0, 4, 0, 0], Yes),
     (FIRST, 0o4, [0, CHILD_0, 0, 0, 0, 0], Yes),
@@ -201,4 +201,39 @@ fn reads_and_writes_a_line(rt: HostRuntime) {
         byte: 0o150,
     };
     sends(&rt, &system, Some(sent));
+}
+
+// Holding w on a line at level 0 it can't rise to level 1, and what it appends to, a line at level 1, doesn't hinder it. Before
+// that it comes to hold that line by a, and gives up w on root.
+const HELD: [Row; 8] = [
+    (RISING, 0o6, [0, CHILD_2, 0, 8, 0, 0], Yes),
+    (RISING, 0o2, [0, CHILD_2, 0, 0, 0, 0], Yes),
+    (RISING, 0o5, [0, ROOT, 0, 4, 0, 0], Yes),
+    (RISING, 0o27, [0, 0, 0, 1, 0, 0], No(12)),
+    (RISING, 0o5, [0, CHILD_1, 0, 4, 0, 0], Yes),
+    (RISING, 0o27, [0, 0, 0, 2, 0, 0], No(2)),
+    (RISING, 0o27, [0, 0, 0, 3, 0, 0], Unknown(24)),
+    (RISING, 0o27, [0, 0, 0, 1, 0, 0], Yes),
+];
+
+// Once it has risen it can neither fall nor write to the line at level 0 again.
+const ABOVE: [Row; 2] = [
+    (RISEN, 0o27, [0, 0, 0, 0, 0, 0], No(3)),
+    (RISEN, 0o4, [0, CHILD_1, 0, 0, 0, 0], No(3)),
+];
+
+const RISEN_TELLS: [(Row, [u16; 6]); 1] = [(
+    (RISEN, 0o22, [7, 7, 7, 7, 7, 7], Yes),
+    [0, 0, 0, 1, 1, 7],
+)];
+
+#[test]
+fn raises_a_level_that_what_is_held_allows(rt: HostRuntime) {
+    let mut system = sample(&rt, rt.alloc());
+    answers(&rt, &mut system, &HELD[..7]);
+    raises(&rt, &system, None);
+    answers(&rt, &mut system, &HELD[7..]);
+    raises(&rt, &system, Some(1));
+    answers(&rt, &mut system, &ABOVE);
+    tells(&rt, &mut system, &RISEN_TELLS);
 }

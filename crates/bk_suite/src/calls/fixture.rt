@@ -27,6 +27,7 @@ pub(crate) struct System {
     pub(crate) process: Process,
     pub(crate) caller: Caller,
     pub(crate) sent: Option<LineByte>,
+    pub(crate) level: Option<u8>,
 }
 
 // The facts of an object that grants nobody anything.
@@ -70,13 +71,14 @@ pub(crate) fn sample(rt: &impl Abort, alloc: Global) -> System {
         process: Process::new(Regs::process(Ps::process(Mode::User, Mode::User))),
         caller: FIRST,
         sent: None,
+        level: None,
     }
 }
 
-// Two levels, of which the second dominates the first.
+// Three levels, of which each dominates those before it.
 fn levels(rt: &impl Abort) -> LevelTable {
     let mut levels = LevelTable::new();
-    for class in 0..2 {
+    for class in 0..3 {
         levels.push(level(class, 0)).ok().expect(rt, "room");
     }
     levels
@@ -162,5 +164,6 @@ pub(crate) fn ask(system: &mut System, number: u8, general: [u16; 6]) -> Option<
         number,
     );
     system.sent = reply.sent;
+    system.level = reply.level;
     Some(reply.answer)
 }

@@ -19,6 +19,21 @@ pub(crate) const SECOND: Caller = Caller {
     subjects: 2,
 };
 
+// One at level 0 that may rise to level 1, and the same once it has risen.
+pub(crate) const RISING: Caller = Caller {
+    subject: 0,
+    f_s: 1,
+    f_c: 0,
+    subjects: 2,
+};
+
+pub(crate) const RISEN: Caller = Caller {
+    subject: 0,
+    f_s: 1,
+    f_c: 1,
+    subjects: 2,
+};
+
 // The caller, the number of the call, R0 to R5, and the answer.
 pub(crate) type Row = (Caller, u8, [u16; 6], Answer);
 
@@ -56,6 +71,11 @@ fn leaves(rt: &impl Abort, system: &System, number: u8, after: [u16; 6]) {
         after,
         "after call {number}"
     );
+}
+
+// The last call raised its caller to that level, or to none.
+pub(crate) fn raises(rt: &impl Abort, system: &System, level: Option<u8>) {
+    assert_eq!(rt; system.level, level);
 }
 
 // The last call sent that byte, or none.

@@ -28,8 +28,8 @@ fn keeps_its_modes_in_a_return(rt: HostRuntime) -> Result<(), Fail> {
                     (0, &[0o000002]),
                     // MFPI (R0), MOV SP,R4, MOV (SP),R3, TRAP
                     (0o100, &[0o006510, 0o010604, 0o011603, 0o104400]),
-                    // MOV 2(SP),R2, call 27
-                    (0o120, &[0o016602, 0o000002, 0o104027]),
+                    // MOV 2(SP),R2, call 30
+                    (0o120, &[0o016602, 0o000002, 0o104030]),
                 ],
                 &[(0, E)],
             ),
@@ -39,7 +39,7 @@ fn keeps_its_modes_in_a_return(rt: HostRuntime) -> Result<(), Fail> {
         ..SYSTEM
     };
     let report = b"F 0 4 0 7 000110 enter
-C 0 6 0 027 000000 000000 174000 000002 020002 000000 ? 20
+C 0 6 0 030 000000 000000 174000 000002 020002 000000 ? 20
 ";
     check(&rt, rt.alloc(), &system, &[&[]], (report, 7, 16, 1))?;
     Ok(())
@@ -54,11 +54,11 @@ type Faulting<'a> = (Mode, u16, u16, u8, Wanted<'a>);
 #[test]
 fn reflects_a_fault(rt: HostRuntime) -> Result<(), Fail> {
     let entered = b"F 0 0 0 4 000100 enter
-C 0 8 0 027 000000 000000 001234 000100 174000 000374 ? 20
+C 0 8 0 030 000000 000000 001234 000100 174000 000374 ? 20
 F 0 9 0 4 000222 stop
 ";
     let after_flags = b"F 0 1 0 4 000100 enter
-C 0 9 0 027 000000 000000 001234 000100 174017 000374 ? 20
+C 0 9 0 030 000000 000000 001234 000100 174017 000374 ? 20
 ";
     let stopped = b"F 0 0 0 4 000100 stop\n";
     let rows: [Faulting; 6] = [
@@ -92,7 +92,7 @@ C 0 9 0 027 000000 000000 001234 000100 174017 000374 ? 20
                         0o200,
                         &[
                             0o006701, 0o005500, 0o010605, 0o011603, 0o016604, 0o000002, 0o006506,
-                            0o012602, 0o104027,
+                            0o012602, 0o104030,
                         ],
                     )],
                     &[(0, E)],
@@ -179,10 +179,10 @@ fn tests_both_words_before_either_is_written(rt: HostRuntime) -> Result<(), Fail
                 segment(1, &[(0o40, &[0o000777])], &[(0, E)]),
                 segment(128, &[], &lower),
                 segment(1, &[], &upper),
-                // MOV @#017776,R3, MOV @#020000,R4, call 27
+                // MOV @#017776,R3, MOV @#020000,R4, call 30
                 segment(
                     1,
-                    &[(0, &[0o013703, 0o017776, 0o013704, 0o020000, 0o104027])],
+                    &[(0, &[0o013703, 0o017776, 0o013704, 0o020000, 0o104030])],
                     &[(1, E)],
                 ),
             ],
@@ -191,7 +191,7 @@ fn tests_both_words_before_either_is_written(rt: HostRuntime) -> Result<(), Fail
         let wanted: Wanted = if taken {
             (
                 b"F 0 0 0 7 000002 enter
-C 1 2 1 027 000000 000000 000000 000002 174000 000000 ? 20
+C 1 2 1 030 000000 000000 000000 000002 174000 000000 ? 20
 ",
                 6,
                 12,
@@ -200,7 +200,7 @@ C 1 2 1 027 000000 000000 000000 000002 174000 000000 ? 20
         } else {
             (
                 b"F 0 0 0 7 000002 stop
-C 1 2 1 027 000000 000000 000000 000000 000000 000000 ? 20
+C 1 2 1 030 000000 000000 000000 000000 000000 000000 ? 20
 ",
                 6,
                 8,
@@ -225,7 +225,7 @@ fn stops_at_traps_and_traces(rt: HostRuntime) -> Result<(), Fail> {
         (
             0o000006,
             (
-                b"C 0 1 0 027 000000 000000 000000 000000 000000 000000 ? 20
+                b"C 0 1 0 030 000000 000000 000000 000000 000000 000000 ? 20
 F 0 2 0 5 000104 stop
 ",
                 4,
@@ -236,7 +236,7 @@ F 0 2 0 5 000104 stop
     ];
     for (word, wanted) in rows {
         let first = [word];
-        let words: [Part; 2] = [(0, &first), (0o100, &[0o104027, 0o000001])];
+        let words: [Part; 2] = [(0, &first), (0o100, &[0o104030, 0o000001])];
         let system = System {
             turns: 4,
             subjects: &[Subject {
