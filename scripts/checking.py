@@ -79,6 +79,12 @@ def needs_vectors(*parts):
     return place
 
 
+def wanted(case):
+    """What a case from outside has to give: the status, the output and the error output of the latest of its answers."""
+    answer = next(case + kind for kind in (".ten", ".v2", "") if os.path.exists(case + kind + ".status"))
+    return int(content(answer + ".status")), content(answer + ".out"), content(answer + ".err")
+
+
 def content(path):
     """The bytes of a file that has to be there."""
     try:

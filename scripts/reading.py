@@ -189,6 +189,7 @@ def read_image(data):
     return image
 
 
+RAISE = "027"
 NUMBER = r"(?:0|[1-9][0-9]*)"
 RECORD = re.compile(rb"(0|[1-9][0-9]{0,8}) (0|[1-9][0-9]{0,8}) ((?:[0-9a-f]{2}){1,128})")
 SLOTS = re.compile(rb"END (0|[1-9][0-9]{0,8})")
@@ -224,7 +225,7 @@ END = re.compile(rf"END ({NUMBER}) ({NUMBER}) ({NUMBER}) ({NUMBER})")
 
 def read_report(text, image):
     """The items of a report of the image, and its number of slots."""
-    items, lines = [], text.split("\n")
+    items, lines, current = [], text.split("\n"), [subject.current for subject in image.subjects]
     for place, line in enumerate(lines[:-1], 1):
         end = END.fullmatch(line)
         if end:
@@ -235,16 +236,18 @@ def read_report(text, image):
             return items, int(end[1])
         found = ITEM.fullmatch(line)
         check([("form", not found)], f"line {place}")
-        items.append(item_of(line, found, image, f"line {place}"))
+        items.append(item_of(line, found, image, current, f"line {place}"))
     raise Refused(f"line {len(lines)}", "end")
 
 
-def item_of(line, found, image, place):
-    """An item: its place in the run, and the subject in whose slot it stands."""
+def item_of(line, found, image, current, place):
+    """An item: its place in the run, the subject in whose slot it stands, and the number of that one's current level when it comes. A
+    raise that is answered yes changes it for those after it."""
     item = Value(kind=line[0], text=line)
     slot, turn, who = next(found.group(n, n + 1, n + 2) for n in (1, 9, 15) if found[n] is not None)
     item.slot, item.turn = int(slot), int(turn)
     item.subject = image.schedule[item.slot % len(image.schedule)]
+    item.level = current[item.subject]
     if item.kind == "L":
         item.line, item.byte = int(who), int(found[18], 8)
         check([("line", item.line not in image.line_levels)], place)
@@ -252,6 +255,9 @@ def item_of(line, found, image, place):
         check([("subject", int(who) != item.subject)], place)
     if item.kind == "C":
         item.call, item.answer, item.cause = found[4], found[6] or found[7], int(found[8] or 0)
+        if (item.call, item.answer) == (RAISE, "yes"):
+            current[item.subject] = int(found[5].split()[3], 8)
+            check([("level", current[item.subject] >= len(image.levels))], place)
     if item.kind == "F":
         item.fault, item.how = int(found[12]), found[14]
     check([("turn", item.turn >= image.turns)], place)
