@@ -10,9 +10,11 @@ use Rattle.bk_space.specs.AddrSpace.{AddrSpace}
 use Rattle.bk_isa.specs.declared.operation.Bin.{Bin}
 use Rattle.bk_isa.specs.declared.operation.Un.{Un}
 use Rattle.bk_isa.specs.declared.operation.Cond.{Cond}
-use Rattle.bk_isa.specs.declared.instr.Instr.TheVariants.{Double, Single, Branch}
+use Rattle.bk_isa.specs.declared.instr.Instr.TheVariants.{Double, Single, Branch, Emt}
 use Rattle.bk_isa.specs.Decode.{look_up, doubles, singles, branches, field_at, register_at, number_at, single_at, parts_of, decode_of}
+use Rattle.bk_operand.specs.Part.{given}
 use Rattle.bk_exec.specs.Given.{done}
+use Rattle.bk_exec.specs.declared.ending.Ending.TheVariants.{Called}
 use Rattle.bk_exec.specs.Operands.{double_of, single_of}
 use Rattle.bk_exec.specs.Control.{branched}
 use Rattle.bk_exec.specs.Exec.{executed}
@@ -133,24 +135,29 @@ decode-single word op width code = found_at IsSingle singles (word / 64) (op, wi
 abbrev IsBranch : ℕ → Cond → Type 0
 IsBranch high branch = (low : ℕ) → parts_of high low ≡ Some (Branch branch (high % 4 * 64 + low))
 
-abbrev AreBranches : ℕ → Cond → Type 0
-AreBranches code branch = IsBranch code branch × IsBranch (code + 1) branch × IsBranch (code + 2) branch × IsBranch (code + 3) branch
+-- the fact holds of four codes, which the two bits after the top eight tell apart
+abbrev AllFour : (ℕ → Type 0) → ℕ → Type 0
+AllFour P code = P code × P (code + 1) × P (code + 2) × P (code + 3)
 
-one_of : (code high rest : ℕ) (branch : Cond) → AreBranches code branch → rest < 4 → high ≡ code + rest → IsBranch high branch
-one_of code high zero branch all less e =
+-- .. so of each of them
+one_of : (P : ℕ → Type 0) (code high rest : ℕ) → AllFour P code → rest < 4 → high ≡ code + rest → P high
+one_of P code high zero all less e =
     let same : code ≡ high = omega (arith, e) in
-    subst (λ n. IsBranch n branch) same all.0
-one_of code high (suc zero) branch all less e = subst (λ n. IsBranch n branch) (sym e) all.1
-one_of code high (suc (suc zero)) branch all less e = subst (λ n. IsBranch n branch) (sym e) all.2
-one_of code high (suc (suc (suc zero))) branch all less e = subst (λ n. IsBranch n branch) (sym e) all.3
-one_of code high (suc (suc (suc (suc rest)))) branch all less e = absurd (omega (arith, less))
+    subst P same all.0
+one_of P code high (suc zero) all less e = subst P (sym e) all.1
+one_of P code high (suc (suc zero)) all less e = subst P (sym e) all.2
+one_of P code high (suc (suc (suc zero))) all less e = subst P (sym e) all.3
+one_of P code high (suc (suc (suc (suc rest)))) all less e = absurd (omega (arith, less))
+
+abbrev AreBranches : ℕ → Cond → Type 0
+AreBranches code branch = AllFour (λ high. IsBranch high branch) code
 
 decode-branch : (word : ℕ) (branch : Cond) → look_up branches (word / 0o400 * 4) ≡ Some branch → decode_of word ≡ Some (Branch branch (word % 0o400))
 decode-branch word branch code =
     let less : word / 64 % 4 < 4 = grind (arith, common_steps) in
     let high : word / 64 ≡ word / 0o400 * 4 + word / 64 % 4 = grind (arith, common_steps) in
     let offset : word / 64 % 4 * 64 + word % 64 ≡ word % 0o400 = grind (arith, common_steps) in
-    one_of (word / 0o400 * 4) (word / 64) (word / 64 % 4) branch (found_at AreBranches branches (word / 0o400 * 4) branch all code) less high (word % 64)
+    one_of (λ n. IsBranch n branch) (word / 0o400 * 4) (word / 64) (word / 64 % 4) (found_at AreBranches branches (word / 0o400 * 4) branch all code) less high (word % 64)
     ∙ ap (λ n. Some (Branch branch n)) offset
   where
     all : AllAt AreBranches branches
@@ -201,6 +208,18 @@ decode-branch word branch code =
       ),
     )
 
+-- EMT, by the top eight bits
+abbrev IsCall : ℕ → Type 0
+IsCall high = (low : ℕ) → parts_of high low ≡ Some (Emt (high % 4 * 64 + low))
+
+decode-call : (word : ℕ) → word / 0o400 ≡ 0o210 → decode_of word ≡ Some (Emt (word % 0o400))
+decode-call word code =
+    let less : word / 64 % 4 < 4 = grind (arith, common_steps) in
+    let high : word / 64 ≡ 0o1040 + word / 64 % 4 = grind (arith, common_steps, code) in
+    let number : word / 64 % 4 * 64 + word % 64 ≡ word % 0o400 = grind (arith, common_steps) in
+    one_of IsCall 0o1040 (word / 64) (word / 64 % 4) ((λ low. refl), (λ low. refl), (λ low. refl), (λ low. refl)) less high (word % 64)
+    ∙ ap (λ n. Some (Emt n)) number
+
 -- what the words do that are looked up by their top bits
 pub executed-double : (pages : AddrSpace) (word : ℕ) (op : Bin) (width : Width) (src dst : Field) (regs : Regs) → look_up doubles (word / 0o10000) ≡ Some (op, width) → src ≡ field_at (word / 64 % 64) → dst ≡ field_at (word % 64) → double_of pages op width src dst regs ≡ executed pages (decode_of word) regs
 unfolding executed
@@ -215,3 +234,7 @@ executed-single pages word op width dst regs code to =
 pub executed-branch : (pages : AddrSpace) (word : ℕ) (branch : Cond) (regs : Regs) → look_up branches (word / 0o400 * 4) ≡ Some branch → done None (branched branch (word % 0o400) regs) ≡ executed pages (decode_of word) regs
 unfolding executed
 executed-branch pages word branch regs code = ap (λ o. executed pages o regs) (sym (decode-branch word branch code))
+
+pub executed-call : (pages : AddrSpace) (word : ℕ) (regs : Regs) → word / 0o400 ≡ 0o210 → given (None, Called (word % 0o400)) regs ≡ executed pages (decode_of word) regs
+unfolding executed
+executed-call pages word regs code = ap (λ o. executed pages o regs) (sym (decode-call word code))

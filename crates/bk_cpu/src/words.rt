@@ -190,6 +190,18 @@ fn branch_in<B: Bus>(
     Outcome::Completed
 }
 
+// EMT: a call, with the number in the low eight bits of the word.
+#[inline(always)]
+fn call_in<B: Bus>(regs: &mut Regs, bus: &mut B, word: u16) -> Outcome
+    requires code { word / 0o400 ≡ 0o210 }
+    ensures reaches { Reaches (result_of result) regs.new (executed (B.shown (B.state bus.old)) (decode_of word) regs.old) }
+    ensures count { B.references bus.new ≡ counted_on (B.references bus.old) (executed (B.shown (B.state bus.old)) (decode_of word) regs.old).made }
+    ensures state { B.state bus.new ≡ left_by B.after (B.state bus.old) (executed (B.shown (B.state bus.old)) (decode_of word) regs.old).outcome }
+    ensures regs { regs.new ≡ regs.old }
+{
+    Outcome::Called((word % 0o400) as u8)
+}
+
 // Any word, by its decoded form.
 #[inline(never)]
 #[tactic(auto, using(crate::proofs::CountSets::no_part), unfolding(bk_exec::specs::Exec::executed))]
@@ -276,7 +288,7 @@ fn word_singles<B: Bus>(regs: &mut Regs, undo: &mut Undo, bus: &mut B, word: u16
     }
 }
 
-// The words from 104000 to 107777.
+// The words from 104400 to 107777.
 #[inline(always)]
 fn byte_singles<B: Bus>(regs: &mut Regs, undo: &mut Undo, bus: &mut B, word: u16) -> Outcome
     requires fresh { IsFresh undo.old }
@@ -334,6 +346,8 @@ pub(crate) fn execute_word<B: Bus>(
         0o10 => {
             if word < 0o104000 {
                 high_branches(regs, undo, bus, word)
+            } else if word < 0o104400 {
+                call_in(regs, bus, word)
             } else {
                 byte_singles(regs, undo, bus, word)
             }

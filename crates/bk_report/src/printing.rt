@@ -27,15 +27,6 @@ pub fn put_decimal<I: Integer>(out: &mut ArrayVec<u8, 96>, n: I)
     put(out, buffer.format(n).as_bytes());
 }
 
-/// Appends a byte as three octal digits.
-pub fn put_octal(out: &mut ArrayVec<u8, 96>, n: u8)
-    requires { array_vec_len out.old + 3 ≤ 96 }
-    ensures items { out.new.items ≡ out.old.items ++ octal3 n }
-    ensures len { array_vec_len out.new ≡ array_vec_len out.old + 3 }
-{
-    put(out, &[48 + n / 64, 48 + n / 8 % 8, 48 + n % 8]);
-}
-
 /// The two octal digits of each number below 64.
 static PAIRS: [u8; 128] =
     *b"00010203040506071011121314151617202122232425262730313233343536374041424344454647505152535455565760616263646566677071727374757677";
@@ -93,6 +84,27 @@ fn put_number(out: &mut ArrayVec<u8, 96>, n: u32)
     }
 }
 
+/// Appends a space and a byte as three octal digits.
+#[inline(always)]
+fn put_byte(out: &mut ArrayVec<u8, 96>, n: u8)
+    requires { array_vec_len out.old + 4 ≤ 96 }
+    ensures items { out.new.items ≡ out.old.items ++ codes " " ++ octal3 n }
+    ensures len { array_vec_len out.new ≡ array_vec_len out.old + 4 }
+{
+    put(out, &[b' ', 48 + n / 64, 48 + n / 8 % 8, 48 + n % 8]);
+}
+
+/// Appends a space and a word as six octal digits.
+#[inline(always)]
+fn put_next(out: &mut ArrayVec<u8, 96>, n: u16)
+    requires { array_vec_len out.old + 7 ≤ 96 }
+    ensures items { out.new.items ≡ out.old.items ++ codes " " ++ octal6 n }
+    ensures len { array_vec_len out.new ≡ array_vec_len out.old + 7 }
+{
+    let [a, b, c, d, e, f] = digits(n);
+    put(out, &[b' ', a, b, c, d, e, f]);
+}
+
 /// Appends the six words, each after a space.
 fn put_words(out: &mut ArrayVec<u8, 96>, words: &[u16; 6])
     requires { array_vec_len out.old + 42 ≤ 96 }
@@ -100,21 +112,27 @@ fn put_words(out: &mut ArrayVec<u8, 96>, words: &[u16; 6])
     ensures len { array_vec_len out.new ≡ array_vec_len out.old + 42 }
 {
     for word in words {
-        put(out, b" ");
-        put_word(out, *word);
+        put_next(out, *word);
     }
 }
 
-/// Appends a space and the word for an answer.
-fn put_answer(out: &mut ArrayVec<u8, 96>, answer: u8)
-    requires { array_vec_len out.old + 4 ≤ 96 }
-    ensures items { out.new.items ≡ out.old.items ++ codes " " ++ answer_of answer }
-    ensures len { array_vec_len out.new ≤ array_vec_len out.old + 4 }
+/// Appends a space and the word for an answer, and after another space its cause, which is 0 for yes.
+fn put_answer(out: &mut ArrayVec<u8, 96>, answer: u8, cause: u8)
+    requires room { array_vec_len out.old + 15 ≤ 96 }
+    requires yes { answer ≡ 0 → cause ≡ 0 }
+    ensures items { out.new.items ≡ out.old.items ++ codes " " ++ answer_of answer ++ codes " " ++ decimal cause }
+    ensures len { array_vec_len out.new ≤ array_vec_len out.old + 15 }
 {
     match answer {
-        0 => put(out, b" yes"),
-        1 => put(out, b" no"),
-        _ => put(out, b" ?"),
+        0 => put(out, b" yes 0"),
+        1 => {
+            put(out, b" no");
+            put_number(out, u32::from(cause));
+        }
+        _ => {
+            put(out, b" ?");
+            put_number(out, u32::from(cause));
+        }
     }
 }
 
@@ -137,7 +155,7 @@ pub fn print_on(item: &ReportItem, out: &mut ArrayVec<u8, 96>)
     requires empty { array_vec_len out.old ≡ 0 }
     ensures { out.new.items ≡ text_of item.now }
 {
-    match *item {
+    match item {
         ReportItem::Call {
             slot,
             turn,
@@ -148,14 +166,12 @@ pub fn print_on(item: &ReportItem, out: &mut ArrayVec<u8, 96>)
             cause,
         } => {
             put(out, b"C");
-            put_number(out, slot);
-            put_number(out, u32::from(turn));
-            put_number(out, u32::from(subject));
-            put(out, b" ");
-            put_octal(out, number);
-            put_words(out, &regs);
-            put_answer(out, answer);
-            put_number(out, u32::from(cause));
+            put_number(out, *slot);
+            put_number(out, u32::from(*turn));
+            put_number(out, u32::from(*subject));
+            put_byte(out, *number);
+            put_words(out, regs);
+            put_answer(out, *answer, *cause);
         }
         ReportItem::Fault {
             slot,
@@ -166,13 +182,12 @@ pub fn print_on(item: &ReportItem, out: &mut ArrayVec<u8, 96>)
             entered,
         } => {
             put(out, b"F");
-            put_number(out, slot);
-            put_number(out, u32::from(turn));
-            put_number(out, u32::from(subject));
-            put_number(out, u32::from(cause));
-            put(out, b" ");
-            put_word(out, pc);
-            put_how(out, entered);
+            put_number(out, *slot);
+            put_number(out, u32::from(*turn));
+            put_number(out, u32::from(*subject));
+            put_number(out, u32::from(*cause));
+            put_next(out, *pc);
+            put_how(out, *entered);
         }
         ReportItem::Byte {
             slot,
@@ -181,11 +196,10 @@ pub fn print_on(item: &ReportItem, out: &mut ArrayVec<u8, 96>)
             byte,
         } => {
             put(out, b"L");
-            put_number(out, slot);
-            put_number(out, u32::from(turn));
-            put_number(out, u32::from(line));
-            put(out, b" ");
-            put_octal(out, byte);
+            put_number(out, *slot);
+            put_number(out, u32::from(*turn));
+            put_number(out, u32::from(*line));
+            put_byte(out, *byte);
         }
         ReportItem::End {
             slots,
@@ -194,10 +208,10 @@ pub fn print_on(item: &ReportItem, out: &mut ArrayVec<u8, 96>)
             calls,
         } => {
             put(out, b"END");
-            put_count(out, slots);
-            put_count(out, turns);
-            put_count(out, references);
-            put_count(out, calls);
+            put_count(out, *slots);
+            put_count(out, *turns);
+            put_count(out, *references);
+            put_count(out, *calls);
         }
     }
     put(out, b"\n");
