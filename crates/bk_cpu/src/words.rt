@@ -82,7 +82,33 @@ fn double_registers<B: Bus>(
     Outcome::Completed
 }
 
-// .. on words: in line where both are registers.
+// .. on words, of which the first is the word that follows, and the second a register.
+#[inline(always)]
+fn double_immediate<B: Bus>(
+    regs: &mut Regs,
+    undo: &mut Undo,
+    bus: &mut B,
+    op: Bin,
+    word: u16,
+) -> Outcome
+    requires code { look_up doubles (word / 0o10000) ≡ Some (op, Word) }
+    requires src { word / 0o100 % 64 ≡ 0o27 }
+    requires dst { word / 0o10 % 8 ≡ 0 }
+    requires fresh { IsFresh undo.old }
+    ensures reaches { Reaches (result_of result) regs.new (executed (B.shown (B.state bus.old)) (decode_of word) regs.old) }
+    ensures count { B.references bus.new ≡ counted_on (B.references bus.old) (executed (B.shown (B.state bus.old)) (decode_of word) regs.old).made }
+    ensures state { B.state bus.new ≡ left_by B.after (B.state bus.old) (executed (B.shown (B.state bus.old)) (decode_of word) regs.old).outcome }
+    ensures undone { OnErr (result_of result) (undone undo.new regs.new ≡ undone undo.old regs.old) }
+{
+    let src = Field { mode: 2, reg: 7 };
+    let dst = Field {
+        mode: 0,
+        reg: register(word),
+    };
+    outcome_of(double(regs, undo, bus, op, Width::Word, src, dst))
+}
+
+// .. on words: in line where both are registers, or the first is the word that follows.
 #[inline(always)]
 fn double_word<B: Bus, const CODE: u16>(
     regs: &mut Regs,
@@ -100,6 +126,8 @@ fn double_word<B: Bus, const CODE: u16>(
 {
     if word >> 9 & 7 == 0 && word >> 3 & 7 == 0 {
         double_registers(regs, undo, bus, op, word)
+    } else if word >> 6 & 0o77 == 0o27 && word >> 3 & 7 == 0 {
+        double_immediate(regs, undo, bus, op, word)
     } else {
         double_in::<B, CODE>(regs, undo, bus, op, Width::Word, word)
     }
