@@ -70,7 +70,7 @@ fn put_count<I: Integer>(out: &mut ArrayVec<u8, 96>, n: I)
     put_decimal(out, n);
 }
 
-/// Appends a space and a number in decimal, which mostly has one digit.
+/// Appends a space and a number in decimal, which mostly has one digit or two.
 #[inline(always)]
 fn put_number(out: &mut ArrayVec<u8, 96>, n: u32)
     requires { array_vec_len out.old + 11 ≤ 96 }
@@ -79,6 +79,8 @@ fn put_number(out: &mut ArrayVec<u8, 96>, n: u32)
 {
     if n < 10 {
         put(out, &[b' ', 48 + n as u8]);
+    } else if n < 100 {
+        put(out, &[b' ', 48 + (n / 10) as u8, 48 + (n % 10) as u8]);
     } else {
         put_count(out, n);
     }
