@@ -2,11 +2,24 @@ ghost use Rattle.std.specs.Prelude.{◌≡◌, ◌+◌, ◌<◌, ◌≤◌, leng
 ghost use Rattle.std.specs.List.{prefix_len};
 ghost use Rattle.bk_expr.specs.Text.{is_of_text, is_blank, is_of_run, past_blanks, run_at, sign_at};
 
+// What each byte is: `r` of a run, `t` of the text alone, `-` of neither; 32 bytes a row.
+static KINDS: [u8; 256] = *b"\
+---------t----------------------\
+ttttrtttttttttrtrrrrrrrrrrtttttt\
+trrrrrrrrrrrrrrrrrrrrrrrrrrttttt\
+trrrrrrrrrrrrrrrrrrrrrrrrrrtttt-\
+--------------------------------\
+--------------------------------\
+--------------------------------\
+--------------------------------\
+";
+
 /// Whether a byte may stand in a line of the text: a blank, or one that is printed.
+#[tactic(auto, using(crate::proofs::Tables::of_text))]
 pub fn is_of_text(c: u8) -> bool
     ensures { result ≡ is_of_text c }
 {
-    b' ' <= c && c <= b'~' || c == b'\t'
+    KINDS[usize::from(c)] != b'-'
 }
 
 fn is_blank(c: u8) -> bool
@@ -16,13 +29,11 @@ fn is_blank(c: u8) -> bool
 }
 
 // Whether a byte is a letter, a digit, `.` or `$`.
+#[tactic(auto, using(crate::proofs::Tables::of_run))]
 pub(crate) fn is_of_run(c: u8) -> bool
     ensures { result ≡ is_of_run c }
 {
-    if c.is_ascii_alphabetic() {
-        return true;
-    }
-    c.is_ascii_digit() || c == b'.' || c == b'$'
+    KINDS[usize::from(c)] == b'r'
 }
 
 fn blanks_len(text: &[u8]) -> usize

@@ -113,7 +113,7 @@ fn is_spelt_as_name(run: &[u8]) -> bool
 pub(crate) fn is_point(run: &[u8]) -> bool
     ensures { result ≡ bytes_eq run.now (codes ".") }
 {
-    run == b".".as_slice()
+    matches!(run, [b'.'])
 }
 
 // Whether a run is a register's word or an instruction's.
@@ -206,7 +206,7 @@ pub fn local_label(run: &[u8]) -> Option<u16>
     ensures { result ≡ local_of run.now }
 {
     let (digits, after) = digits(run);
-    if after != b"$".as_slice() {
+    if !matches!(after, [b'$']) {
         return None;
     }
     match word_of_digits(10, digits) {
