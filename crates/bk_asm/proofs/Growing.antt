@@ -11,8 +11,8 @@ use Rattle.bk_expr.specs.declared.worked.Worked.TheVariants as work
 use Rattle.bk_expr.specs.Text.{◌>>=◌}
 use Rattle.bk_expr.specs.Tree.{Expression, Number, Name, Local, Here, Negate, Binary}
 use Rattle.bk_expr.specs.Value.{is_defined, join, value_at, worked, or_divide}
-use Rattle.bk_asm_text.specs.declared.statement.Label.{Label}
-use Rattle.bk_asm_text.specs.declared.statement.Label.TheVariants as label
+use Rattle.bk_asm_text.specs.Plain.{PlainLabel}
+use Rattle.bk_asm_text.specs.Plain as label
 use Rattle.bk_asm.specs.Law.{value_of_label}
 use Rattle.bk_asm.specs.Names.{Defined, name_cmp, local_cmp, values_in, has_label, with_name, with_label, with_labels, repeats}
 
@@ -61,18 +61,18 @@ with_name_grows name value defined free = record {
   locals = λ key n h. h;
 }
 
-with_label_grows : (range value : ℕ) (defined : Defined) (one : Label) → has_label range defined one ≡ false → Grows defined (with_label range value defined one)
+with_label_grows : (range value : ℕ) (defined : Defined) (one : PlainLabel) → has_label range defined one ≡ false → Grows defined (with_label range value defined one)
 with_label_grows range value defined (label.Name name) free = with_name_grows name value defined free
 with_label_grows range value defined (label.Local n) free = record {
   names = λ name n h. h;
   locals = put_keeps local_cmp locals_total (range, n) value defined.locals (none_of (find local_cmp (range, n) defined.locals) free);
 }
 
-label_here : (range value : ℕ) (defined : Defined) (one : Label) → value_of_label (with_label range value defined one) range one ≡ Some value
+label_here : (range value : ℕ) (defined : Defined) (one : PlainLabel) → value_of_label (with_label range value defined one) range one ≡ Some value
 label_here range value defined (label.Name name) = put_here name_cmp names_total name value defined.names
 label_here range value defined (label.Local n) = put_here local_cmp locals_total (range, n) value defined.locals
 
-pub label_grows : (range value : ℕ) (first second : Defined) (one : Label) → Grows first second → value_of_label first range one ≡ Some value → value_of_label second range one ≡ Some value
+pub label_grows : (range value : ℕ) (first second : Defined) (one : PlainLabel) → Grows first second → value_of_label first range one ≡ Some value → value_of_label second range one ≡ Some value
 label_grows range value first second (label.Name name) grows h = grows.names name value h
 label_grows range value first second (label.Local n) grows h = grows.locals (range, n) value h
 
@@ -82,7 +82,7 @@ neither true b e = absurd cc
 neither false b e = (refl, e)
 
 -- labels that don't repeat keep all values
-pub with_labels_grows : (range value : ℕ) (defined : Defined) (labels : List Label) → repeats range value defined labels ≡ false → Grows defined (with_labels range value defined labels)
+pub with_labels_grows : (range value : ℕ) (defined : Defined) (labels : List PlainLabel) → repeats range value defined labels ≡ false → Grows defined (with_labels range value defined labels)
 with_labels_grows range value defined [] once = grows_itself defined
 with_labels_grows range value defined (one ∷ labels) once =
     let h = neither (has_label range defined one) (repeats range value (with_label range value defined one) labels) once in
@@ -90,7 +90,7 @@ with_labels_grows range value defined (one ∷ labels) once =
     (with_label_grows range value defined one h.0) (with_labels_grows range value (with_label range value defined one) labels h.1)
 
 -- .. and each has the value
-pub with_labels_here : (range value : ℕ) (defined final : Defined) (labels : List Label) → repeats range value defined labels ≡ false → Grows (with_labels range value defined labels) final
+pub with_labels_here : (range value : ℕ) (defined final : Defined) (labels : List PlainLabel) → repeats range value defined labels ≡ false → Grows (with_labels range value defined labels) final
     → AllByRecursion (λ one. value_of_label final range one ≡ Some value) labels
 with_labels_here range value defined final [] once grows = tt
 with_labels_here range value defined final (one ∷ labels) once grows =

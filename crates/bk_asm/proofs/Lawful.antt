@@ -8,8 +8,8 @@ use Rattle.bk_base.proofs.FaultLemmas.{bind_ok, all_pass}
 use Rattle.bk_expr.specs.declared.worked.Worked.{Worked}
 use Rattle.bk_expr.specs.declared.worked.Worked.TheVariants as work
 use Rattle.bk_expr.specs.Value.{worked}
-use Rattle.bk_asm_text.specs.declared.statement.Label.{Label}
-use Rattle.bk_asm_text.specs.declared.statement.Label.TheVariants as label
+use Rattle.bk_asm_text.specs.Plain.{PlainLabel}
+use Rattle.bk_asm_text.specs.Plain as label
 use Rattle.bk_asm_text.specs.Fault.{fault_at}
 use Rattle.bk_asm_text.specs.Plain.{PlainStatement}
 use Rattle.bk_asm.specs.Faults.{checked, checks, settle, is_undefined, divides_by_zero, is_assigned_again}
@@ -173,7 +173,7 @@ behind origin final (other ∷ front) one others known places is chain =
     }
 
 -- the names stay in order
-sorted_labels : (range value : ℕ) (defined : Defined) (labels : List Label) → T (is_sorted name_cmp defined.names) → T (is_sorted name_cmp (with_labels range value defined labels).names)
+sorted_labels : (range value : ℕ) (defined : Defined) (labels : List PlainLabel) → T (is_sorted name_cmp defined.names) → T (is_sorted name_cmp (with_labels range value defined labels).names)
 sorted_labels range value defined [] sorted = sorted
 sorted_labels range value defined (label.Name name ∷ labels) sorted =
     sorted_labels range value (with_name name value defined) labels (is_sorted-put name_cmp names_total name value defined.names sorted)

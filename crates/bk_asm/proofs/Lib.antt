@@ -3,6 +3,7 @@ mod Tables
 mod Loops
 mod Settling
 mod Coding
+mod Writing
 mod Sizes
 mod Whole
 mod Growing

@@ -2,19 +2,17 @@
 use Rattle.std.specs.Prelude.{ℕ, List, [], ◌∷◌, codes, Result}
 use Rattle.bk_base.specs.Faults.{◌>>=◌}
 use Rattle.bk_asm_text.specs.declared.fault.AsmFault.{AsmFault}
-use Rattle.bk_asm_text.specs.declared.statement.Label.{Label}
-use Rattle.bk_asm_text.specs.declared.statement.Label.TheVariants.{Name}
-use Rattle.bk_asm_text.specs.Plain.{PlainBody, PlainStatement}
+use Rattle.bk_asm_text.specs.Plain.{PlainLabel, Name, PlainBody, PlainStatement}
 use Rattle.bk_asm.specs.Codes.{coded}
 use Rattle.bk_asm.specs.Faults.{settle}
 use Rattle.bk_asm.specs.Places.{start}
 
 -- a statement of a line
-abbrev pub on : (line : ℕ) → List Label → PlainBody → PlainStatement
+abbrev pub on : (line : ℕ) → List PlainLabel → PlainBody → PlainStatement
 on line labels body = record { line = line; labels = labels; body = body }
 
 -- the label A
-abbrev pub label_a : List Label
+abbrev pub label_a : List PlainLabel
 label_a = Name (codes "A") ∷ []
 
 -- the bytes of statements from address 0 on, or their first fault

@@ -6,8 +6,7 @@ use Rattle.bk_expr.specs.declared.worked.Worked.{Worked}
 use Rattle.bk_expr.specs.declared.worked.Worked.TheVariants as work
 use Rattle.bk_expr.specs.Tree.{Expression}
 use Rattle.bk_expr.specs.Value.{worked}
-use Rattle.bk_asm_text.specs.declared.statement.Label.{Label}
-use Rattle.bk_asm_text.specs.declared.statement.Label.TheVariants.{Name, Local}
+use Rattle.bk_asm_text.specs.Plain.{PlainLabel, Name, Local}
 use Rattle.bk_asm_text.specs.Statements.{statements_of}
 use Rattle.bk_asm.specs.declared.program.Program.{Program}
 use Rattle.bk_asm.specs.Assembled.{words_of, symbols_of}
@@ -17,12 +16,12 @@ use Rattle.bk_asm.specs.Pieces.{Role, Assignment, Zeros, Alignment, InWords, InB
 use Rattle.bk_asm.specs.Places.{Placed, as_value}
 
 -- the value of a label, a local one in a range
-abbrev pub value_of_label : Defined → (range : ℕ) → Label → Option ℕ
+abbrev pub value_of_label : Defined → (range : ℕ) → PlainLabel → Option ℕ
 value_of_label defined range (Name name) = find name_cmp name defined.names
 value_of_label defined range (Local n) = find local_cmp (range, n) defined.locals
 
 -- the label has its statement's address as its value
-abbrev pub StandsFor : Defined → Placed → Label → Type 0
+abbrev pub StandsFor : Defined → Placed → PlainLabel → Type 0
 StandsFor defined one label = value_of_label defined one.range label ≡ Some (as_value one.address)
 
 -- what an expression of a statement comes to by the values of all names

@@ -3,6 +3,7 @@ pub mod Names
 pub mod Places
 pub mod Faults
 pub mod Codes
+pub mod Written
 pub mod Assembled
 pub mod Listing
 pub mod Law

@@ -5,8 +5,7 @@ use Rattle.std.specs.Ordering.{nat_cmp, ordering_then}
 use Rattle.std.specs.Cmp.Lexicographic.{slice_cmp}
 use Rattle.std.specs.FinMap.Entries.{find, put}
 use Rattle.bk_expr.specs.Value.{Values}
-use Rattle.bk_asm_text.specs.declared.statement.Label.{Label}
-use Rattle.bk_asm_text.specs.declared.statement.Label.TheVariants.{Name, Local}
+use Rattle.bk_asm_text.specs.Plain.{PlainLabel, Name, Local}
 
 -- byte order
 abbrev pub name_cmp : List ℕ → List ℕ → Ordering
@@ -33,12 +32,12 @@ values_in defined range = record {
 }
 
 -- the label is a name
-abbrev pub is_ordinary : Label → Bool
+abbrev pub is_ordinary : PlainLabel → Bool
 is_ordinary (Name name) = true
 is_ordinary (Local n) = false
 
 -- the label is defined, a local one in the range
-abbrev pub has_label : (range : ℕ) → Defined → Label → Bool
+abbrev pub has_label : (range : ℕ) → Defined → PlainLabel → Bool
 has_label range defined (Name name) = is_some (find name_cmp name defined.names)
 has_label range defined (Local n) = is_some (find local_cmp (range, n) defined.locals)
 
@@ -47,15 +46,15 @@ abbrev pub with_name : List ℕ → (value : ℕ) → Defined → Defined
 with_name name value defined = record defined { names = put name_cmp name value defined.names }
 
 -- a label gets a value, a local one in the range
-abbrev pub with_label : (range value : ℕ) → Defined → Label → Defined
+abbrev pub with_label : (range value : ℕ) → Defined → PlainLabel → Defined
 with_label range value defined (Name name) = with_name name value defined
 with_label range value defined (Local n) = record defined { locals = put local_cmp (range, n) value defined.locals }
 
 -- labels of one statement get its address
-abbrev pub with_labels : (range value : ℕ) → Defined → List Label → Defined
+abbrev pub with_labels : (range value : ℕ) → Defined → List PlainLabel → Defined
 with_labels range value defined labels = fold (with_label range value) defined labels
 
 -- one of them is defined already, or stands twice among them
-abbrev pub repeats : (range value : ℕ) → Defined → List Label → Bool
+abbrev pub repeats : (range value : ℕ) → Defined → List PlainLabel → Bool
 repeats range value defined [] = false
 repeats range value defined (label ∷ labels) = has_label range defined label || repeats range value (with_label range value defined label) labels

@@ -17,8 +17,9 @@ fn assemble_text(alloc: Global, text: &[u8], origin: u16) -> Result<Program, Asm
     ensures { Gives (λ program. program) result (assembled text.now origin) }
 {
     let front = split_front(alloc, text)?;
-    let (placed, table) = settle(alloc, origin, front.statements.as_slice())?;
-    if let Some(fault) = front.fault {
+    let fault = front.fault;
+    let (placed, table) = settle(alloc, origin, &front.statements)?;
+    if let Some(fault) = fault {
         return Err(AsmStop::Bad(fault));
     }
     let bytes = code(alloc, &table, placed.as_slice())?;

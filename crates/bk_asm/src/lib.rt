@@ -4,7 +4,8 @@
 //! what a statement is made of; `form_size`), `specs/Names.antt` (`Defined`, `values_in`), `specs/Places.antt` (`placed`, `after`,
 //! each statement by those in front of it), `specs/Faults.antt` (`checks`, `settle`) and `specs/Codes.antt` (`piece_checks`,
 //! `coded`); `specs/Law.antt` (`IsAssembly`, the same in sizes, addresses and one value for each name); `specs/Listing.antt`
-//! (`listed`); with `specs/Example.antt`; for the code `specs/Seen.antt`.
+//! (`listed`); with `specs/Example.antt`; for the code `specs/Written.antt` (`all_written`, pieces one behind another with what fails
+//! in them) and `specs/Seen.antt`.
 //! Calls: `assemble`, `listing`. (`law_assembled` and the examples are empty functions, for their contracts.)
 //! Proved: a text is assembled exactly into the program that it is, or refused exactly with its first fault; in a program each
 //! statement stands behind those before it and has as many bytes as its size says, each label and each assigned name has one value,
@@ -21,6 +22,8 @@ mod lines;
 mod piece;
 mod place;
 mod program;
+mod putting;
+mod site;
 mod size;
 mod table;
 

@@ -1,10 +1,11 @@
 // Where statements stand, and what they define.
 
-ghost use Rattle.std.specs.Prelude.{◌≡◌, ◌≤◌, ◌<◌, ◌+◌, ◌*◌, ◌%◌, ◌^◌, ◌==◌, ◌∷◌, [], ℕ, if◌then◌else◌, nat_lt, map, IfSome, IfOk, IfErr, OnOk, Ok};
+ghost use Rattle.std.specs.Prelude.{◌≡◌, ◌≤◌, ◌<◌, ◌+◌, ◌*◌, ◌%◌, ◌^◌, ◌==◌, ◌∷◌, [], ℕ, List, if◌then◌else◌, nat_lt, map, IfSome, IfOk, IfErr, OnOk, Ok};
 ghost use Rattle.std.specs.List.{list_any};
 ghost use Rattle.bk_base.specs.Faults.{first_failing, Gives, Refuses};
 ghost use Rattle.bk_asm_text.specs.Fault.{fault_at};
-ghost use Rattle.bk_asm_text.specs.Plain.{plain_body, plain_statement};
+ghost use Rattle.bk_asm_text.specs.Flat.{body_with, plain_label, plain_statement, plain_statements};
+ghost use Rattle.bk_expr.specs.Tree.{Expression, plain};
 ghost use Rattle.bk_asm_text.specs.declared.fault.AsmKind.TheVariants as kind;
 ghost use Rattle.bk_asm.specs.Faults as faults;
 ghost use Rattle.bk_asm.specs.Names as names;
@@ -12,17 +13,18 @@ ghost use Rattle.bk_asm.specs.Pieces as pieces;
 ghost use Rattle.bk_asm.specs.Places as places;
 ghost use Rattle.bk_asm.specs.Seen.{at_most, given_by, seen, plain_known, plain_placed};
 
+use crate::site::Site;
 use crate::size::form_size;
 use crate::table::{Scope, Table};
-use bk_asm_text::{AsmFault, AsmKind, AsmStop, Body, Expr, Label, Statement};
+use bk_asm_text::{AsmFault, AsmKind, AsmStop, Body, Expr, Label, Statement, Statements};
 use bk_base::NoMemory;
-use bk_expr::{Worked, value_of};
+use bk_expr::Worked;
 use std::alloc::Global;
 
 /// A statement at its place, with its size in bytes.
-#[derive(Drop)]
+#[derive(Clone, Copy)]
 pub(crate) struct Placed<'a> {
-    pub(crate) statement: &'a Statement,
+    pub(crate) statement: Statement<'a>,
     pub(crate) address: u32,
     pub(crate) range: usize,
     pub(crate) size: u32,
@@ -43,52 +45,46 @@ pub(crate) fn as_value(address: u32) -> u16
     (address % 0x1_0000) as u16
 }
 
-fn has_ordinary(labels: &[Label]) -> bool
-    ensures { result ≡ list_any names.is_ordinary labels.now }
+fn has_ordinary(labels: &[Label<'_>]) -> bool
+    ensures { result ≡ list_any names.is_ordinary (map plain_label labels.now) }
 {
-    labels.iter().any(|label| matches!(label, Label::Name(_)))
+    for label in labels {
+        if matches!(label, Label::Name(_)) {
+            return true;
+        }
+    }
+    false
 }
 
 // The range of a statement behind another range.
-fn range_at(range: usize, statement: &Statement) -> usize
+fn range_at(range: usize, statement: &Statement<'_>) -> usize
     requires { range + 1 < 2 ^ 64 }
-    ensures value { result ≡ (if list_any names.is_ordinary statement.now.labels then range + 1 else range) }
+    ensures value { result ≡ (if list_any names.is_ordinary (map plain_label statement.now.labels.now) then range + 1 else range) }
     ensures near { result ≤ range + 1 }
 {
-    if has_ordinary(statement.labels.as_slice()) {
+    if has_ordinary(statement.labels) {
         range + 1
     } else {
         range
     }
 }
 
-// Whether a name that is assigned has a value already.
-fn is_assigned_again(table: &Table, body: &Body) -> bool
-    ensures { result ≡ faults.is_assigned_again (seen table.now) (pieces.role_of (plain_body body.now)) }
-{
-    match body {
-        Body::Assign { name, .. } => table.name(name.as_slice()).is_some(),
-        _ => false,
-    }
-}
-
 // Whether a statement's bytes are words.
-fn is_in_words(body: &Body) -> bool
-    ensures { result ≡ faults.is_in_words (pieces.role_of (plain_body body.now)) }
+fn is_in_words(body: &Body<'_>) -> bool
+    ensures { (values : List Expression) → result ≡ faults.is_in_words (pieces.role_of (body_with body.now values)) }
 {
     !matches!(
         body,
-        Body::Nothing | Body::Assign { .. } | Body::ByteList(_) | Body::Ascii { .. } | Body::Even
+        Body::Nothing | Body::Assign { .. } | Body::ByteList | Body::Ascii { .. } | Body::Even
     )
 }
 
 // What the expression of an assignment or of .BLKW comes to.
-fn settled(alloc: Global, scope: &Scope<'_>, here: u16, body: &Body) -> Result<Worked, NoMemory>
-    ensures { IfOk result (λ found. found ≡ places.settled_by (given_by scope.now) here (pieces.role_of (plain_body body.now))) }
+fn settled(site: &Site<'_>, body: &Body<'_>, values: &[Expr]) -> Result<Worked, NoMemory>
+    ensures { IfOk result (λ found. found ≡ places.settled_by (given_by site.now.scope) site.now.here (pieces.role_of (body_with body.now (map plain values.now)))) }
 {
     match body {
-        Body::Assign { value, .. } => value_of(alloc, value, scope, here),
-        Body::Blkw { count } => value_of(alloc, count, scope, here),
+        Body::Assign { .. } | Body::Blkw => site.first_worked(values),
         _ => Ok(Worked::Value(0)),
     }
 }
@@ -124,15 +120,16 @@ fn small(size: u32) -> Option<u32>
 }
 
 // The size of a statement, where it is at most 8,192 bytes.
-fn size_at(address: u32, count: Worked, body: &Body) -> Option<u32>
-    ensures size { result ≡ at_most (places.size_by address (pieces.form_size (plain_body body.now)) count (pieces.role_of (plain_body body.now))) }
+fn size_at(address: u32, count: Worked, body: &Body<'_>, values: &[Expr]) -> Option<u32>
+    ensures size { result ≡ at_most (places.size_by address (pieces.form_size (body_with body.now (map plain values.now))) count
+        (pieces.role_of (body_with body.now (map plain values.now)))) }
     ensures few { IfSome result (λ size. size ≤ 8192) }
 {
     match body {
         Body::Assign { .. } => Some(0),
-        Body::Blkw { .. } => small(2 * u32::from(number_in(count))),
+        Body::Blkw => small(2 * u32::from(number_in(count))),
         Body::Even => Some(address % 2),
-        _ => form_size(body),
+        _ => form_size(body, values),
     }
 }
 
@@ -170,16 +167,22 @@ fn check(line: u32, doubled: bool, odd: bool, worked: Worked, past: bool) -> Res
     Err(AsmFault { line, kind })
 }
 
-// An assignment gives its name the value.
-fn assign(table: &mut Table, alloc: Global, worked: Worked, body: &Body) -> Result<(), NoMemory>
-    ensures { OnOk result (seen table.new ≡ places.assigned (seen table.old) worked (pieces.role_of (plain_body body.now))) }
+// An assignment gives its name the value. Answers whether the name had one already.
+fn assign(
+    table: &mut Table,
+    alloc: Global,
+    worked: Worked,
+    body: &Body<'_>,
+) -> Result<bool, NoMemory>
+    ensures assigned { (values : List Expression) → OnOk result (seen table.new ≡ places.assigned (seen table.old) worked (pieces.role_of (body_with body.now values))) }
+    ensures again { (values : List Expression) → IfOk result (λ again. again ≡ faults.is_assigned_again (seen table.old) (pieces.role_of (body_with body.now values))) }
 {
     match body {
-        Body::Assign { name, .. } => {
-            let _had = table.set_name(alloc, name.as_slice(), number_in(worked))?;
-            Ok(())
+        Body::Assign { name } => {
+            let had = table.set_name(alloc, name, number_in(worked))?;
+            Ok(had.is_some())
         }
-        _ => Ok(()),
+        _ => Ok(false),
     }
 }
 
@@ -189,38 +192,41 @@ impl Known {
         &mut self,
         alloc: Global,
         origin: u16,
-        statement: &'a Statement,
+        statement: Statement<'a>,
     ) -> Result<Placed<'a>, AsmStop>
         requires from { origin ≤ self.old.address }
         requires within { self.old.address ≤ 2 ^ 16 }
         requires room { self.old.range + 1 < 2 ^ 64 }
-        ensures placed { IfOk result (λ placed. plain_placed placed ≡ places.placed (plain_known self.old) (plain_statement statement.now)) }
-        ensures passed { OnOk result (faults.checked origin (plain_known self.old) (plain_statement statement.now) ≡ Ok tt) }
-        ensures after { OnOk result (plain_known self.new ≡ places.after (plain_known self.old) (plain_statement statement.now)) }
-        ensures bad { IfErr result (λ stop. Refuses stop (faults.checked origin (plain_known self.old) (plain_statement statement.now))) }
+        ensures placed { IfOk result (λ placed. plain_placed placed ≡ places.placed (plain_known self.old) (plain_statement statement.entry)) }
+        ensures passed { OnOk result (faults.checked origin (plain_known self.old) (plain_statement statement.entry) ≡ Ok tt) }
+        ensures after { OnOk result (plain_known self.new ≡ places.after (plain_known self.old) (plain_statement statement.entry)) }
+        ensures bad { IfErr result (λ stop. Refuses stop (faults.checked origin (plain_known self.old) (plain_statement statement.entry))) }
         ensures from { OnOk result (origin ≤ self.new.address) }
         ensures within { OnOk result (self.new.address ≤ 2 ^ 16) }
         ensures near { OnOk result (self.new.range ≤ self.old.range + 1) }
     {
-        let labels = statement.labels.as_slice();
-        let body = &statement.body;
-        let range = range_at(self.range, statement);
+        let (body, values) = (&statement.body, statement.values);
+        let range = range_at(self.range, &statement);
         let here = as_value(self.address);
-        let repeated = self.table.set_labels(alloc, range, labels, here)?;
-        let doubled = repeated || is_assigned_again(&self.table, body);
+        let repeated = self.table.set_labels(alloc, range, statement.labels, here)?;
         let odd = is_in_words(body) && self.address % 2 == 1;
-        let scope = Scope {
-            table: &self.table,
-            range,
+        let site = Site {
+            alloc,
+            scope: Scope {
+                table: &self.table,
+                range,
+            },
+            here,
         };
-        let worked = settled(alloc, &scope, here, body)?;
-        let size = size_at(self.address, worked, body);
+        let worked = settled(&site, body, values)?;
+        let again = assign(&mut self.table, alloc, worked, body)?;
+        let doubled = repeated || again;
+        let size = size_at(self.address, worked, body, values);
         let past = is_past(origin, self.address, size);
         if let Err(fault) = check(statement.line, doubled, odd, worked, past) {
             return Err(AsmStop::Bad(fault));
         }
         let size = size.unwrap_or(0);
-        assign(&mut self.table, alloc, worked, body)?;
         let placed = Placed {
             statement,
             address: self.address,
@@ -237,18 +243,19 @@ impl Known {
 pub(crate) fn settle<'a>(
     alloc: Global,
     origin: u16,
-    statements: &'a [Statement],
+    statements: &'a Statements<'_>,
 ) -> Result<(Vec<Placed<'a>>, Table), AsmStop>
     ensures { Gives (λ settled. (map plain_placed settled.0.items, seen settled.1)) result
-        (faults.settle origin [] (places.start origin) (map plain_statement statements.now)) }
+        (faults.settle origin [] (places.start origin) (plain_statements statements.now)) }
 {
-    let mut placed = Vec::new(alloc);
+    let mut placed = Vec::with_capacity(alloc, statements.len())?;
     let mut known = Known {
         address: u32::from(origin),
         range: 0,
         table: Table::new(alloc),
     };
-    for statement in statements {
+    let mut rest = statements.all();
+    'statements: while let Some(statement) = rest.next() {
         let one = known.place(alloc, origin, statement)?;
         placed.push(one)?;
     }

@@ -48,7 +48,7 @@ fn push(words: &mut Vec<u16>, word: u16) -> Result<(), NoMemory>
 pub(crate) fn words_of(alloc: Global, bytes: &[u8]) -> Result<Words, NoMemory>
     ensures { IfOk result (λ words. words ≡ words_of bytes.now) }
 {
-    let mut words = Vec::new(alloc);
+    let mut words = Vec::with_capacity(alloc, bytes.len().div_ceil(2))?;
     let mut rest = bytes;
     'pairs: while rest.len() >= 2 {
         push(&mut words, word_of(rest[0], rest[1]))?;

@@ -1,32 +1,17 @@
 // How long a statement is by its form.
 
-ghost use Rattle.std.specs.Prelude.{◌≡◌, ◌≤◌, ◌+◌, ◌*◌, if◌then◌else◌, sum_by, IfSome};
-ghost use Rattle.bk_asm_text.specs.Plain.{plain_operand, plain_body};
+ghost use Rattle.std.specs.Prelude.{◌≡◌, ◌≤◌, ◌+◌, ◌*◌, List, if◌then◌else◌, map, sum_by, IfSome};
+ghost use Rattle.bk_expr.specs.Tree.{Expression, plain};
+ghost use Rattle.bk_asm_text.specs.Flat.{body_with, operand_with};
 ghost use Rattle.bk_asm.specs.Pieces as pieces;
-ghost use Rattle.bk_asm.specs.Seen.{at_most, plain_piece};
+ghost use Rattle.bk_asm.specs.Seen.{at_most};
 
-use crate::piece::Piece;
-use bk_asm_text::{Body, Operand};
-
-/// How many bytes a piece has.
-pub(crate) fn size_of(piece: &Piece<'_>) -> usize
-    ensures { result ≡ pieces.size_of (plain_piece piece.now) }
-{
-    match piece {
-        Piece::Byte(_) => 1,
-        Piece::Text(text) => text.len(),
-        Piece::Fixed(_)
-        | Piece::Value(_)
-        | Piece::Distance(_)
-        | Piece::Branch(..)
-        | Piece::Back(..)
-        | Piece::Number(..) => 2,
-    }
-}
+use bk_asm_text::{Body, Expr, Operand};
 
 // How many bytes the word behind the instruction's has.
-fn operand_size(operand: &Operand) -> u32
-    ensures value { result ≡ sum_by pieces.size_of (pieces.operand_word (plain_operand operand.now)) }
+#[inline(always)]
+fn operand_size(operand: Operand) -> u32
+    ensures value { (values : List Expression) → result ≡ sum_by pieces.size_of (pieces.operand_word (operand_with operand values)) }
     ensures small { result ≤ 2 }
 {
     match operand {
@@ -36,12 +21,12 @@ fn operand_size(operand: &Operand) -> u32
         | Operand::IncDeferred(_)
         | Operand::Dec(_)
         | Operand::DecDeferred(_) => 0,
-        Operand::Index { .. }
-        | Operand::IndexDeferred { .. }
-        | Operand::Immediate(_)
-        | Operand::Absolute(_)
-        | Operand::Relative(_)
-        | Operand::RelativeDeferred(_) => 2,
+        Operand::Index(_)
+        | Operand::IndexDeferred(_)
+        | Operand::Immediate
+        | Operand::Absolute
+        | Operand::Relative
+        | Operand::RelativeDeferred => 2,
         Operand::IndexZero(_) => 2,
     }
 }
@@ -72,12 +57,13 @@ fn bytes(count: usize, more: bool) -> Option<u32>
 
 /// The size of a statement by its form, where it is at most 8,192 bytes.
 #[tactic(auto, using(crate::proofs::Sizes::values_size, crate::proofs::Sizes::bytes_size))]
-pub(crate) fn form_size(body: &Body) -> Option<u32>
-    ensures size { result ≡ at_most (pieces.form_size (plain_body body.now)) }
+#[inline(always)]
+pub(crate) fn form_size(body: &Body<'_>, values: &[Expr]) -> Option<u32>
+    ensures size { result ≡ at_most (pieces.form_size (body_with body.now (map plain values.now))) }
     ensures few { IfSome result (λ size. size ≤ 8192) }
 {
-    match body {
-        Body::Nothing | Body::Assign { .. } | Body::Blkw { .. } | Body::Even => Some(0),
+    match *body {
+        Body::Nothing | Body::Assign { .. } | Body::Blkw | Body::Even => Some(0),
         Body::Double { src, dst, .. } => Some(2 + operand_size(src) + operand_size(dst)),
         Body::Eis { src, .. } => Some(2 + operand_size(src)),
         Body::Xor { dst, .. } | Body::Jsr { dst, .. } | Body::Single { dst, .. } => {
@@ -86,12 +72,12 @@ pub(crate) fn form_size(body: &Body) -> Option<u32>
         Body::Rts { .. }
         | Body::Sob { .. }
         | Body::Branch { .. }
-        | Body::Mark { .. }
-        | Body::Spl { .. }
+        | Body::Mark
+        | Body::Spl
         | Body::Number { .. }
         | Body::Alone { .. } => Some(2),
-        Body::WordList(exprs) => words(exprs.as_slice().len()),
-        Body::ByteList(exprs) => bytes(exprs.as_slice().len(), false),
-        Body::Ascii { text, zero } => bytes(text.as_slice().len(), *zero),
+        Body::WordList => words(values.len()),
+        Body::ByteList => bytes(values.len(), false),
+        Body::Ascii { text, zero } => bytes(text.len(), zero),
     }
 }

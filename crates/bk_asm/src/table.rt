@@ -3,7 +3,9 @@
 ghost use Rattle.std.specs.Prelude.{◌≡◌, IfOk, OnOk, IfErr, OnErr, is_some, map};
 ghost use Rattle.std.specs.FinMap.Entries.{find};
 ghost use Rattle.std.specs.List.{list_any};
-ghost use Rattle.bk_asm_text.specs.declared.statement.Label.TheVariants.{Local};
+ghost use Rattle.bk_asm_text.specs.Flat.{plain_label};
+ghost use Rattle.bk_asm_text.specs.Plain.{Local};
+ghost use Rattle.bk_expr.specs.Names.{upper_case};
 ghost use Rattle.bk_asm.specs.Assembled.{symbols_of};
 ghost use Rattle.bk_asm.specs.Names as names;
 ghost use Rattle.bk_asm.specs.Seen.{seen};
@@ -46,20 +48,17 @@ impl Table {
         self.locals.get(&(range, n)).copied()
     }
 
-    /// Gives a name a value, and answers the one that it had.
+    /// Gives a name, as it is written, a value, and answers the one that it had.
     pub(crate) fn set_name(
         &mut self,
         alloc: Global,
         name: &[u8],
         value: u16,
     ) -> Result<Option<u16>, NoMemory>
-        ensures same { OnOk result (seen self.new ≡ names.with_name name.now value (seen self.old)) }
-        ensures had { IfOk result (λ had. had ≡ find names.name_cmp name.now (seen self.old).names) }
+        ensures same { OnOk result (seen self.new ≡ names.with_name (upper_case name.now) value (seen self.old)) }
+        ensures had { IfOk result (λ had. had ≡ find names.name_cmp (upper_case name.now) (seen self.old).names) }
     {
-        let mut key = Vec::new(alloc);
-        let Ok(()) = key.extend_from_slice(name) else {
-            return Err(NoMemory);
-        };
+        let key = name.to_ascii_uppercase(alloc)?;
         let Ok(had) = self.names.insert(key, value) else {
             return Err(NoMemory);
         };
@@ -82,14 +81,14 @@ impl Table {
         &mut self,
         alloc: Global,
         range: usize,
-        label: &Label,
+        label: &Label<'_>,
         value: u16,
     ) -> Result<bool, NoMemory>
-        ensures same { OnOk result (seen self.new ≡ names.with_label range value (seen self.old) label.now) }
-        ensures had { IfOk result (λ had. had ≡ names.has_label range (seen self.old) label.now) }
+        ensures same { OnOk result (seen self.new ≡ names.with_label range value (seen self.old) (plain_label label.now)) }
+        ensures had { IfOk result (λ had. had ≡ names.has_label range (seen self.old) (plain_label label.now)) }
     {
         let had = match label {
-            Label::Name(name) => self.set_name(alloc, name.as_slice(), value)?,
+            Label::Name(name) => self.set_name(alloc, name, value)?,
             Label::Local(n) => self.set_local(range, *n, value)?,
         };
         Ok(had.is_some())
@@ -100,11 +99,11 @@ impl Table {
         &mut self,
         alloc: Global,
         range: usize,
-        labels: &[Label],
+        labels: &[Label<'_>],
         value: u16,
     ) -> Result<bool, NoMemory>
-        ensures same { OnOk result (seen self.new ≡ names.with_labels range value (seen self.old) labels.now) }
-        ensures repeats { IfOk result (λ again. again ≡ names.repeats range value (seen self.old) labels.now) }
+        ensures same { OnOk result (seen self.new ≡ names.with_labels range value (seen self.old) (map plain_label labels.now)) }
+        ensures repeats { IfOk result (λ again. again ≡ names.repeats range value (seen self.old) (map plain_label labels.now)) }
     {
         let mut again = false;
         for label in labels {
@@ -117,7 +116,7 @@ impl Table {
     pub(crate) fn into_symbols(self, alloc: Global) -> Result<Symbols, NoMemory>
         ensures { IfOk result (λ symbols. symbols ≡ symbols_of (seen self)) }
     {
-        let mut symbols = Vec::new(alloc);
+        let mut symbols = Vec::with_capacity(alloc, self.names.len())?;
         for (name, value) in &self.names {
             let mut bytes = Vec::new(alloc);
             let Ok(()) = bytes.extend_from_slice(name.as_slice()) else {
@@ -135,7 +134,7 @@ impl Table {
 }
 
 /// The values that expressions in a range are worked with.
-#[derive(Drop)]
+#[derive(Clone, Copy)]
 pub(crate) struct Scope<'a> {
     pub(crate) table: &'a Table,
     pub(crate) range: usize,

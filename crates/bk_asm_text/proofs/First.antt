@@ -5,20 +5,19 @@ use Rattle.std.specs.List.{AllByRecursion, list_all}
 use Rattle.bk_expr.specs.Text.{is_of_text}
 use Rattle.bk_asm_text.specs.declared.fault.AsmFault.{AsmFault}
 use Rattle.bk_asm_text.specs.declared.fault.AsmKind.TheVariants as kind
-use Rattle.bk_asm_text.specs.declared.statement.Label.{Label}
 use Rattle.bk_asm_text.specs.Fault.{fault, fault_at}
 use Rattle.bk_asm_text.specs.First.{IsInside, number_behind, IsFirstOutside}
 use Rattle.bk_asm_text.specs.Parts.{all_of}
-use Rattle.bk_asm_text.specs.Plain.{PlainBody, PlainStatement}
+use Rattle.bk_asm_text.specs.Plain.{PlainBody, PlainLabel, PlainStatement}
 use Rattle.bk_asm_text.specs.Statements.{body_of, label_at, statement_of, says, lines_of, next_line, then_others, statements_at, statements_of}
 
 -- ---- a line says the same under each number
 
 -- a statement apart from its number
-abbrev said : PlainStatement → List Label × PlainBody
+abbrev said : PlainStatement → List PlainLabel × PlainBody
 said statement = (statement.labels, statement.body)
 
-by_body : (at : ℕ) (b : Bool) (labels : List Label) (o : Option PlainBody) →
+by_body : (at : ℕ) (b : Bool) (labels : List PlainLabel) (o : Option PlainBody) →
     cond {A = Option PlainStatement} b (option_map (λ body. record { line = at; labels = labels; body = body }) o) None ≡ None →
     option_map said (cond {A = Option PlainStatement} b (option_map (λ body. record { line = 1; labels = labels; body = body }) o) None) ≡ None
 by_body at false labels o e = refl
@@ -29,7 +28,7 @@ said_none : (at : ℕ) (line : List ℕ) → statement_of at line ≡ None → s
 unfolding statement_of
 said_none at line e = by_body at (list_all is_of_text line) (all_of label_at line).0 (body_of (all_of label_at line).1) e
 
-by_said : (at : ℕ) (b : Bool) (labels : List Label) (o : Option PlainBody) →
+by_said : (at : ℕ) (b : Bool) (labels : List PlainLabel) (o : Option PlainBody) →
     option_map said (cond {A = Option PlainStatement} b (option_map (λ body. record { line = 1; labels = labels; body = body }) o) None) ≡ None →
     cond {A = Option PlainStatement} b (option_map (λ body. record { line = at; labels = labels; body = body }) o) None ≡ None
 by_said at false labels o e = refl

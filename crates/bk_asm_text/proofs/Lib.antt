@@ -6,6 +6,8 @@ pub mod Many
 pub mod Shorter
 pub mod Loops
 pub mod Lines
-pub mod Statements
+pub mod Said
+pub mod Reading
+pub mod Flat
 pub mod Before
 pub mod First

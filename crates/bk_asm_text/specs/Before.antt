@@ -1,10 +1,11 @@
 -- The lines of a text before its first one outside the grammar.
-use Rattle.std.specs.Prelude.{ℕ, List, [], ◌∷◌, ◌++◌, map, Option, Some, None}
+use Rattle.std.specs.Prelude.{ℕ, List, [], ◌∷◌, ◌++◌, Option, Some, None}
 use Rattle.bk_asm_text.specs.declared.fault.AsmFault.{AsmFault}
 use Rattle.bk_asm_text.specs.declared.fault.AsmKind.TheVariants as kind
 use Rattle.bk_asm_text.specs.declared.splitting.Front.{Front}
 use Rattle.bk_asm_text.specs.Fault.{fault_at}
-use Rattle.bk_asm_text.specs.Plain.{PlainStatement, plain_statement}
+use Rattle.bk_asm_text.specs.Flat.{plain_statements}
+use Rattle.bk_asm_text.specs.Plain.{PlainStatement}
 use Rattle.bk_asm_text.specs.Statements.{lines_of, next_line, statement_of}
 
 -- the statements of these lines, and the fault of the one outside the grammar, if there is one
@@ -28,4 +29,4 @@ before_fault text = before_at 1 [] (lines_of text)
 
 -- the same of what is in memory
 abbrev pub plain_front : Front → Before
-plain_front front = record { statements = map plain_statement front.statements; fault = front.fault }
+plain_front front = record { statements = plain_statements front.statements; fault = front.fault }

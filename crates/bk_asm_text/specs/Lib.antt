@@ -1,5 +1,7 @@
 pub mod Fault
 pub mod Plain
+pub mod Flat
+pub mod Read
 pub mod Parts
 pub mod Operands
 pub mod Forms

@@ -1,12 +1,11 @@
--- Statements as plain values, without the boxes that hold the parts of their expressions in memory.
-use Rattle.std.specs.Prelude.{ℕ, Bool, List, map, Option, option_map}
-use Rattle.bk_expr.specs.Tree.{Expression, plain}
-use Rattle.bk_asm_text.specs.declared.operand.Operand.{Operand}
-use Rattle.bk_asm_text.specs.declared.operand.Operand.TheVariants as operand
-use Rattle.bk_asm_text.specs.declared.statement.Label.{Label}
-use Rattle.bk_asm_text.specs.declared.statement.Body.{Body}
-use Rattle.bk_asm_text.specs.declared.statement.Body.TheVariants as body
-use Rattle.bk_asm_text.specs.declared.statement.Statement.{Statement}
+-- What a line says, as a plain value.
+use Rattle.std.specs.Prelude.{ℕ, Bool, List, Option}
+use Rattle.bk_expr.specs.Tree.{Expression}
+
+-- a label: a name in upper case, or a local label by its number
+pub data PlainLabel : Type 0 where
+  Name : (name : List ℕ) → PlainLabel
+  Local : (n : ℕ) → PlainLabel
 
 -- an operand, in the order of the table
 pub data PlainOperand : Type 0 where
@@ -49,47 +48,5 @@ pub data PlainBody : Type 0 where
 -- what a line says: its number, its labels, and what its statement is
 pub record PlainStatement : Type 0 where
   pub line : ℕ
-  pub labels : List Label
+  pub labels : List PlainLabel
   pub body : PlainBody
-
--- the plain operand that one in memory is
-abbrev pub plain_operand : Operand → PlainOperand
-plain_operand (operand.Reg reg) = Reg reg
-plain_operand (operand.Deferred reg) = Deferred reg
-plain_operand (operand.Inc reg) = Inc reg
-plain_operand (operand.IncDeferred reg) = IncDeferred reg
-plain_operand (operand.Dec reg) = Dec reg
-plain_operand (operand.DecDeferred reg) = DecDeferred reg
-plain_operand (operand.Index reg value) = Index reg (plain value)
-plain_operand (operand.IndexDeferred reg value) = IndexDeferred reg (plain value)
-plain_operand (operand.IndexZero reg) = IndexZero reg
-plain_operand (operand.Immediate value) = Immediate (plain value)
-plain_operand (operand.Absolute value) = Absolute (plain value)
-plain_operand (operand.Relative value) = Relative (plain value)
-plain_operand (operand.RelativeDeferred value) = RelativeDeferred (plain value)
-
--- the same of what a statement is
-abbrev pub plain_body : Body → PlainBody
-plain_body body.Nothing = Nothing
-plain_body (body.Assign name value) = Assign name (plain value)
-plain_body (body.Double base src dst) = Double base (plain_operand src) (plain_operand dst)
-plain_body (body.Eis base src reg) = Eis base (plain_operand src) reg
-plain_body (body.Xor reg dst) = Xor reg (plain_operand dst)
-plain_body (body.Jsr reg dst) = Jsr reg (plain_operand dst)
-plain_body (body.Single base dst) = Single base (plain_operand dst)
-plain_body (body.Rts reg) = Rts reg
-plain_body (body.Sob reg to) = Sob reg (plain to)
-plain_body (body.Branch base to) = Branch base (plain to)
-plain_body (body.Mark count) = Mark (plain count)
-plain_body (body.Spl level) = Spl (plain level)
-plain_body (body.Number base n) = Number base (option_map plain n)
-plain_body (body.Alone base) = Alone base
-plain_body (body.WordList values) = WordList (map plain values)
-plain_body (body.ByteList values) = ByteList (map plain values)
-plain_body (body.Ascii text zero) = Ascii text zero
-plain_body (body.Blkw count) = Blkw (plain count)
-plain_body body.Even = Even
-
--- the same of a statement
-abbrev pub plain_statement : Statement → PlainStatement
-plain_statement statement = record { line = statement.line; labels = statement.labels; body = plain_body statement.body }

@@ -9,20 +9,18 @@ use Rattle.bk_isa.specs.declared.mnemonic.Mnemonic.{Mnemonic}
 use Rattle.bk_asm_text.specs.declared.directive.Directive.{Directive}
 use Rattle.bk_asm_text.specs.declared.fault.AsmFault.{AsmFault}
 use Rattle.bk_asm_text.specs.declared.fault.AsmKind.TheVariants as kind
-use Rattle.bk_asm_text.specs.declared.statement.Label.{Label}
-use Rattle.bk_asm_text.specs.declared.statement.Label.TheVariants.{Name, Local}
 use Rattle.bk_asm_text.specs.Directives.{directive_of, argument_at}
 use Rattle.bk_asm_text.specs.Fault.{fault}
 use Rattle.bk_asm_text.specs.Forms.{fields_at}
 use Rattle.bk_asm_text.specs.Parts.{is_end, all_of}
-use Rattle.bk_asm_text.specs.Plain.{PlainBody, Nothing, Assign, PlainStatement}
+use Rattle.bk_asm_text.specs.Plain.{PlainBody, Nothing, Assign, PlainLabel, Name, Local, PlainStatement}
 
 -- the label that a run is: a name, or a local label
-unfoldable pub label_of_run : List ℕ → Option Label
+unfoldable pub label_of_run : List ℕ → Option PlainLabel
 label_of_run run = option_or (option_map Name (name_of run)) (option_map Local (local_of run))
 
 -- a label and its colon
-unfoldable pub label_at : List ℕ → Front Label
+unfoldable pub label_at : List ℕ → Front PlainLabel
 label_at text = do
   label ← in_run label_of_run text
   rest ← sign_at 58 label.1
@@ -61,7 +59,7 @@ body_of text =
     else body_at text >>= (λ body. if is_end body.1 then Some body.0 else None)
 
 -- the statement with these labels and what stands behind them
-abbrev pub statement_with : (at : ℕ) → List Label × List ℕ → Option PlainStatement
+abbrev pub statement_with : (at : ℕ) → List PlainLabel × List ℕ → Option PlainStatement
 statement_with at labels = option_map (λ body. record { line = at; labels = labels.0; body = body }) (body_of labels.1)
 
 -- the statement that a line says, by its number: all bytes are of the text, any number of labels, and what stands behind them
@@ -69,7 +67,7 @@ unfoldable pub statement_of : (at : ℕ) → List ℕ → Option PlainStatement
 statement_of at line = if list_all is_of_text line then statement_with at (all_of label_at line) else None
 
 -- the labels of a line, and what its statement is
-abbrev pub says : List ℕ → Option (List Label × PlainBody)
+abbrev pub says : List ℕ → Option (List PlainLabel × PlainBody)
 says line = option_map (λ statement. (statement.labels, statement.body)) (statement_of 1 line)
 
 -- the parts between LFs, but for an empty last one

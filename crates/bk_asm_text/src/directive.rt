@@ -1,15 +1,16 @@
 // Directives, and what follows the word of each.
 
-ghost use Rattle.std.specs.Prelude.{◌≡◌, ◌==◌, ◌<◌, length, option_map, map, IfOk, IfSome};
+ghost use Rattle.std.specs.Prelude.{◌≡◌, ◌==◌, ◌<◌, [], length, option_map, map, IfOk, IfNone, IfSome};
 ghost use Rattle.std.specs.List.{position};
 ghost use Rattle.bk_expr.specs.Tree.{plain};
 ghost use Rattle.bk_asm_text.specs.Directives as directives;
-ghost use Rattle.bk_asm_text.specs.Parts.{all_of};
-ghost use Rattle.bk_asm_text.specs.Plain.{plain_body};
+ghost use Rattle.bk_asm_text.specs.Flat.{body_with};
+ghost use Rattle.bk_asm_text.specs.Read.{ValueRead};
 
-use crate::statement::{Body, Exprs};
-use bk_base::{Bytes, NoMemory};
-use bk_expr::{Expr, past_blanks, read_expression, sign};
+use crate::statement::Body;
+use crate::value::{read_value, with_value};
+use bk_base::NoMemory;
+use bk_expr::{Expr, past_blanks, sign};
 use std::alloc::Global;
 
 /// A directive, by its word.
@@ -48,37 +49,40 @@ pub(crate) fn directive_of(alloc: Global, run: &[u8]) -> Result<Option<Directive
     Ok(directive_named(&word))
 }
 
-// A comma, and the expression after it.
+// A comma, and the expression after it, put behind those of its statement.
 #[tactic(auto, unfolding(crate::specs::Directives::next_expression_at))]
-fn next_expression(alloc: Global, text: &[u8]) -> Result<Option<(Expr, &[u8])>, NoMemory>
-    ensures value { IfOk result (λ read. option_map (λ x. (plain x.0, x.1.now)) read ≡ directives.next_expression_at text.now) }
-    ensures shorter { IfOk result (λ read. IfSome read (λ x. length x.1.now < length text.now)) }
+fn next_expression<'a>(
+    alloc: Global,
+    values: &mut Vec<Expr>,
+    text: &'a [u8],
+) -> Result<Option<&'a [u8]>, NoMemory>
+    ensures value { IfOk result (λ read. ValueRead (map plain values.old.items) (map plain values.new.items) (option_map (λ rest. rest.now) read) (directives.next_expression_at text.now)) }
+    ensures same { IfOk result (λ read. IfNone read (values.new.items ≡ values.old.items)) }
+    ensures shorter { IfOk result (λ read. IfSome read (λ rest. length rest.now < length text.now)) }
 {
     match sign(text, b',') {
         None => Ok(None),
-        Some(rest) => read_expression(alloc, rest),
+        Some(rest) => read_value(alloc, values, rest),
     }
 }
 
 // One or more expressions, parted by commas.
 #[tactic(auto, unfolding(crate::specs::Directives::expressions_at))]
-fn expressions(alloc: Global, text: &[u8]) -> Result<Option<(Exprs, &[u8])>, NoMemory>
-    ensures { IfOk result (λ read. option_map (λ x. (map plain x.0, x.1.now)) read ≡ directives.expressions_at text.now) }
+fn expressions<'a>(
+    alloc: Global,
+    values: &mut Vec<Expr>,
+    text: &'a [u8],
+) -> Result<Option<&'a [u8]>, NoMemory>
+    requires { values.old.items ≡ [] }
+    ensures { IfOk result (λ read. option_map (λ rest. (map plain values.new.items, rest.now)) read ≡ directives.expressions_at text.now) }
 {
-    let Some((first, mut rest)) = read_expression(alloc, text)? else {
+    let Some(mut rest) = read_value(alloc, values, text)? else {
         return Ok(None);
     };
-    let mut values = Vec::new(alloc);
-    let Ok(()) = values.push(first) else {
-        return Err(NoMemory);
-    };
-    'each: while let Some((value, after)) = next_expression(alloc, rest)? {
-        let Ok(()) = values.push(value) else {
-            return Err(NoMemory);
-        };
+    'each: while let Some(after) = next_expression(alloc, values, rest)? {
         rest = after;
     }
-    Ok(Some((Exprs::from_vec(values), rest)))
+    Ok(Some(rest))
 }
 
 // Whether a byte may stand before and after a string; it is no blank.
@@ -110,64 +114,62 @@ fn string(text: &[u8]) -> Option<(&[u8], &[u8])>
 
 // `.WORD E,E,..`, from behind its word on.
 #[tactic(auto, unfolding(crate::specs::Directives::argument_at))]
-fn words(alloc: Global, text: &[u8]) -> Result<Option<(Body, &[u8])>, NoMemory>
-    ensures { IfOk result (λ read. option_map (λ x. (plain_body x.0, x.1.now)) read ≡ directives.argument_at Directive.Word text.now) }
+fn words<'a>(
+    alloc: Global,
+    values: &mut Vec<Expr>,
+    text: &'a [u8],
+) -> Result<Option<(Body<'a>, &'a [u8])>, NoMemory>
+    requires { values.old.items ≡ [] }
+    ensures { IfOk result (λ read. option_map (λ x. (body_with x.0 (map plain values.new.items), x.1.now)) read ≡ directives.argument_at Directive.Word text.now) }
 {
-    let Some((values, rest)) = expressions(alloc, text)? else {
-        return Ok(None);
-    };
-    Ok(Some((Body::WordList(values), rest)))
+    match expressions(alloc, values, text)? {
+        None => Ok(None),
+        Some(rest) => Ok(Some((Body::WordList, rest))),
+    }
 }
 
 // `.BYTE E,E,..`.
 #[tactic(auto, unfolding(crate::specs::Directives::argument_at))]
-fn bytes(alloc: Global, text: &[u8]) -> Result<Option<(Body, &[u8])>, NoMemory>
-    ensures { IfOk result (λ read. option_map (λ x. (plain_body x.0, x.1.now)) read ≡ directives.argument_at Directive.Byte text.now) }
+fn bytes<'a>(
+    alloc: Global,
+    values: &mut Vec<Expr>,
+    text: &'a [u8],
+) -> Result<Option<(Body<'a>, &'a [u8])>, NoMemory>
+    requires { values.old.items ≡ [] }
+    ensures { IfOk result (λ read. option_map (λ x. (body_with x.0 (map plain values.new.items), x.1.now)) read ≡ directives.argument_at Directive.Byte text.now) }
 {
-    let Some((values, rest)) = expressions(alloc, text)? else {
-        return Ok(None);
-    };
-    Ok(Some((Body::ByteList(values), rest)))
+    match expressions(alloc, values, text)? {
+        None => Ok(None),
+        Some(rest) => Ok(Some((Body::ByteList, rest))),
+    }
 }
 
 // `.ASCII` with a string, or `.ASCIZ`.
-fn ascii(alloc: Global, zero: bool, text: &[u8]) -> Result<Option<(Body, &[u8])>, NoMemory>
-    ensures { IfOk result (λ read. option_map (λ x. (plain_body x.0, x.1.now)) read ≡ directives.ascii_at zero text.now) }
+fn ascii(zero: bool, text: &[u8]) -> Option<(Body<'_>, &[u8])>
+    ensures { option_map (λ x. (body_with x.0 [], x.1.now)) result ≡ directives.ascii_at zero text.now }
 {
-    let Some((text, rest)) = string(text) else {
-        return Ok(None);
-    };
-    let text = Bytes::from_vec(text.to_vec(alloc)?);
-    Ok(Some((Body::Ascii { text, zero }, rest)))
-}
-
-// `.BLKW E`.
-#[tactic(auto, unfolding(crate::specs::Directives::argument_at))]
-fn block(alloc: Global, text: &[u8]) -> Result<Option<(Body, &[u8])>, NoMemory>
-    ensures { IfOk result (λ read. option_map (λ x. (plain_body x.0, x.1.now)) read ≡ directives.argument_at Directive.Blkw text.now) }
-{
-    let Some((count, rest)) = read_expression(alloc, text)? else {
-        return Ok(None);
-    };
-    Ok(Some((Body::Blkw { count }, rest)))
+    let (text, rest) = string(text)?;
+    Some((Body::Ascii { text, zero }, rest))
 }
 
 /// What follows the word of a directive.
 #[inline(never)]
 #[tactic(auto, unfolding(crate::specs::Directives::argument_at))]
-pub(crate) fn read_argument(
+pub(crate) fn read_argument<'a>(
     alloc: Global,
+    values: &mut Vec<Expr>,
     directive: Directive,
-    text: &[u8],
-) -> Result<Option<(Body, &[u8])>, NoMemory>
-    ensures { IfOk result (λ read. option_map (λ x. (plain_body x.0, x.1.now)) read ≡ directives.argument_at directive text.now) }
+    text: &'a [u8],
+) -> Result<Option<(Body<'a>, &'a [u8])>, NoMemory>
+    requires { values.old.items ≡ [] }
+    ensures { IfOk result (λ read. option_map (λ x. (body_with x.0 (map plain values.new.items), x.1.now)) read ≡ directives.argument_at directive text.now) }
 {
     match directive {
-        Directive::Word => words(alloc, text),
-        Directive::Byte => bytes(alloc, text),
-        Directive::Ascii => ascii(alloc, false, text),
-        Directive::Asciz => ascii(alloc, true, text),
-        Directive::Blkw => block(alloc, text),
+        Directive::Word => words(alloc, values, text),
+        Directive::Byte => bytes(alloc, values, text),
+        Directive::Ascii => Ok(ascii(false, text)),
+        Directive::Asciz => Ok(ascii(true, text)),
+        Directive::Blkw => with_value(alloc, values, Body::Blkw, text),
         Directive::Even => Ok(Some((Body::Even, text))),
     }
 }

@@ -9,7 +9,7 @@ ghost use Rattle.bk_asm_text.specs.Operands.{operand_at};
 ghost use Rattle.bk_asm_text.specs.Plain as plain;
 ghost use Rattle.bk_asm_text.specs.Statements.{lines_of, says, statements_of};
 ghost use Rattle.bk_asm_text.specs.declared.fault.AsmKind.TheVariants as kind;
-ghost use Rattle.bk_asm_text.specs.declared.statement.Label.TheVariants.{Name, Local};
+ghost use Rattle.bk_asm_text.specs.Plain.{Name, Local};
 
 /// Operands worked by hand: one for each row of addressing, and texts that are none.
 pub fn law_example_of_operands()

@@ -1,18 +1,21 @@
 // Operands: the eight modes of addressing by a register, and the four by the program counter.
 
-ghost use Rattle.std.specs.Prelude.{◌≡◌, option_map, IfOk};
+ghost use Rattle.std.specs.Prelude.{◌≡◌, [], false, length, map, option_map, IfOk, IfSome, List};
 ghost use Rattle.bk_asm_text.specs.Addressing as addressing;
-ghost use Rattle.bk_expr.specs.Text.{sign_at};
+ghost use Rattle.bk_asm_text.specs.Flat.{has_value, operand_with};
 ghost use Rattle.bk_asm_text.specs.Operands.{operand_at};
-ghost use Rattle.bk_asm_text.specs.Plain.{plain_operand};
+ghost use Rattle.bk_asm_text.specs.Read.{at_by, deferred_if, indexed_by, OperandRead};
+ghost use Rattle.bk_expr.specs.Text.{sign_at};
+ghost use Rattle.bk_expr.specs.Tree.{Expression, plain};
 
 use crate::part::is_operand_end;
+use crate::value::read_value;
 use bk_base::NoMemory;
-use bk_expr::{Expr, read_expression, register, sign};
+use bk_expr::{Expr, register, sign};
 use std::alloc::Global;
 
-/// An operand, in the order of the rows of addressing. `E` is an expression and `R` a register.
-#[derive(Drop)]
+/// An operand, in the order of the rows of addressing. `R` is a register and `E` the next of the statement's expressions.
+#[derive(Clone, Copy)]
 pub enum Operand {
     /// `R`.
     Reg(u8),
@@ -27,22 +30,23 @@ pub enum Operand {
     /// `@-(R)`.
     DecDeferred(u8),
     /// `E(R)`.
-    Index { reg: u8, value: Expr },
+    Index(u8),
     /// `@E(R)`.
-    IndexDeferred { reg: u8, value: Expr },
+    IndexDeferred(u8),
     /// `@(R)`: deferred through the index 0.
     IndexZero(u8),
     /// `#E`.
-    Immediate(Expr),
+    Immediate,
     /// `@#E`.
-    Absolute(Expr),
+    Absolute,
     /// `E`.
-    Relative(Expr),
+    Relative,
     /// `@E`.
-    RelativeDeferred(Expr),
+    RelativeDeferred,
 }
 
 // `(R)`.
+#[inline(always)]
 #[tactic(auto, unfolding(crate::specs::Addressing::enclosed_at))]
 fn enclosed(text: &[u8]) -> Option<(u8, &[u8])>
     ensures { option_map (λ read. (read.0, read.1.now)) result ≡ addressing.enclosed_at text.now }
@@ -55,7 +59,8 @@ fn enclosed(text: &[u8]) -> Option<(u8, &[u8])>
 
 // `(R)+`, or `(R)` where no + follows.
 fn stepped(reg: u8, text: &[u8]) -> (Operand, &[u8])
-    ensures { (plain_operand result.0, result.1.now) ≡ addressing.stepped reg text.now (sign_at 43 text.now) }
+    ensures value { (operand_with result.0 [], result.1.now) ≡ addressing.stepped reg text.now (sign_at 43 text.now) }
+    ensures alone { has_value result.0 ≡ false }
 {
     match sign(text, b'+') {
         None => (Operand::Deferred(reg), text),
@@ -66,7 +71,8 @@ fn stepped(reg: u8, text: &[u8]) -> (Operand, &[u8])
 // `R`, `(R)`, `(R)+` or `-(R)`.
 #[tactic(auto, unfolding(crate::specs::Addressing::register_operand_at))]
 fn register_operand(text: &[u8]) -> Option<(Operand, &[u8])>
-    ensures { option_map (λ read. (plain_operand read.0, read.1.now)) result ≡ addressing.register_operand_at text.now }
+    ensures value { option_map (λ read. (operand_with read.0 [], read.1.now)) result ≡ addressing.register_operand_at text.now }
+    ensures alone { IfSome result (λ read. has_value read.0 ≡ false) }
 {
     if let Some((reg, rest)) = register(text) {
         return Some((Operand::Reg(reg), rest));
@@ -78,81 +84,127 @@ fn register_operand(text: &[u8]) -> Option<(Operand, &[u8])>
     Some((Operand::Dec(reg), rest))
 }
 
-// `#E`, from behind the # on.
-fn immediate(alloc: Global, text: &[u8]) -> Result<Option<(Operand, &[u8])>, NoMemory>
-    ensures { IfOk result (λ read. option_map (λ x. (plain_operand x.0, x.1.now)) read ≡ addressing.value_after (Some text.now) text.now) }
+// .. where it ends.
+#[tactic(auto, unfolding(crate::specs::Addressing::closed))]
+fn closed_register_operand(text: &[u8]) -> Option<(Operand, &[u8])>
+    ensures value { option_map (λ read. (operand_with read.0 [], read.1.now)) result ≡ addressing.closed (addressing.register_operand_at text.now) }
+    ensures alone { IfSome result (λ read. has_value read.0 ≡ false) }
 {
-    let Some((value, rest)) = read_expression(alloc, text)? else {
+    match register_operand(text) {
+        Some((operand, rest)) if is_operand_end(rest) => Some((operand, rest)),
+        _ => None,
+    }
+}
+
+// `E(R)`, or `E` where no register in brackets follows, from behind E on.
+fn indexed(text: &[u8]) -> (Operand, &[u8])
+    ensures { (result.0, result.1.now) ≡ indexed_by text.now (addressing.enclosed_at text.now) }
+{
+    match enclosed(text) {
+        None => (Operand::Relative, text),
+        Some((reg, rest)) => (Operand::Index(reg), rest),
+    }
+}
+
+// `#E`, from behind the # on.
+#[tactic(auto, using(crate::proofs::Reading::immediate_none, crate::proofs::Reading::immediate_some))]
+fn immediate<'a>(
+    alloc: Global,
+    values: &mut Vec<Expr>,
+    text: &'a [u8],
+) -> Result<Option<(Operand, &'a [u8])>, NoMemory>
+    ensures { IfOk result (λ read. OperandRead (map plain values.old.items) (map plain values.new.items) (option_map (λ x. (x.0, x.1.now)) read) (addressing.value_after (Some text.now) text.now)) }
+{
+    let Some(rest) = read_value(alloc, values, text)? else {
         return Ok(None);
     };
-    Ok(Some((Operand::Immediate(value), rest)))
+    Ok(Some((Operand::Immediate, rest)))
 }
 
 // `#E`, `E(R)` or `E`.
-#[tactic(auto, unfolding(crate::specs::Addressing::value_operand_at))]
-fn value_operand(alloc: Global, text: &[u8]) -> Result<Option<(Operand, &[u8])>, NoMemory>
-    ensures { IfOk result (λ read. option_map (λ x. (plain_operand x.0, x.1.now)) read ≡ addressing.value_operand_at text.now) }
+fn value_operand<'a>(
+    alloc: Global,
+    values: &mut Vec<Expr>,
+    text: &'a [u8],
+) -> Result<Option<(Operand, &'a [u8])>, NoMemory>
+    ensures { IfOk result (λ read. OperandRead (map plain values.old.items) (map plain values.new.items) (option_map (λ x. (x.0, x.1.now)) read) (addressing.value_operand_at text.now)) }
 {
     if let Some(rest) = sign(text, b'#') {
-        return immediate(alloc, rest);
+        return immediate(alloc, values, rest);
     }
-    let Some((value, rest)) = read_expression(alloc, text)? else {
+    let Some(rest) = read_value(alloc, values, text)? else {
         return Ok(None);
     };
-    Ok(Some(match enclosed(rest) {
-        None => (Operand::Relative(value), rest),
-        Some((reg, rest)) => (Operand::Index { reg, value }, rest),
-    }))
+    Ok(Some(indexed(rest)))
 }
 
 // An operand without @.
-#[tactic(auto, unfolding(crate::specs::Addressing::direct_at, crate::specs::Addressing::closed))]
-fn direct(alloc: Global, text: &[u8]) -> Result<Option<(Operand, &[u8])>, NoMemory>
-    ensures { IfOk result (λ read. option_map (λ x. (plain_operand x.0, x.1.now)) read ≡ addressing.direct_at text.now) }
+fn direct<'a>(
+    alloc: Global,
+    values: &mut Vec<Expr>,
+    text: &'a [u8],
+) -> Result<Option<(Operand, &'a [u8])>, NoMemory>
+    ensures { IfOk result (λ read. OperandRead (map plain values.old.items) (map plain values.new.items) (option_map (λ x. (x.0, x.1.now)) read) (addressing.direct_at text.now)) }
 {
-    if let Some((operand, rest)) = register_operand(text)
-        && is_operand_end(rest)
-    {
+    if let Some((operand, rest)) = closed_register_operand(text) {
         return Ok(Some((operand, rest)));
     }
-    match value_operand(alloc, text)? {
-        Some((operand, rest)) if is_operand_end(rest) => Ok(Some((operand, rest))),
-        _ => Ok(None),
+    let Some((operand, rest)) = value_operand(alloc, values, text)? else {
+        return Ok(None);
+    };
+    if !is_operand_end(rest) {
+        return Ok(None);
+    }
+    Ok(Some((operand, rest)))
+}
+
+// Whether @ stands first, and the text behind it.
+#[inline(always)]
+fn past_at(text: &[u8]) -> (bool, &[u8])
+    ensures { (result.0, result.1.now) ≡ at_by (sign_at 64 text.now) text.now }
+{
+    match sign(text, b'@') {
+        None => (false, text),
+        Some(rest) => (true, rest),
     }
 }
 
 // The operand that one is behind @; one that is deferred stays.
 fn deferred(operand: Operand) -> Operand
-    ensures { plain_operand result ≡ addressing.deferred (plain_operand operand) }
+    ensures with { (values : List Expression) → operand_with result values ≡ addressing.deferred (operand_with operand values) }
+    ensures same { has_value result ≡ has_value operand }
 {
     match operand {
         Operand::Reg(reg) => Operand::Deferred(reg),
         Operand::Deferred(reg) => Operand::IndexZero(reg),
         Operand::Inc(reg) => Operand::IncDeferred(reg),
         Operand::Dec(reg) => Operand::DecDeferred(reg),
-        Operand::Index { reg, value } => Operand::IndexDeferred { reg, value },
-        Operand::Immediate(value) => Operand::Absolute(value),
-        Operand::Relative(value) => Operand::RelativeDeferred(value),
+        Operand::Index(reg) => Operand::IndexDeferred(reg),
+        Operand::Immediate => Operand::Absolute,
+        Operand::Relative => Operand::RelativeDeferred,
         other => other,
     }
 }
 
-// An operand by whether @ stands first.
-fn by_at(alloc: Global, text: &[u8]) -> Result<Option<(Operand, &[u8])>, NoMemory>
-    ensures { IfOk result (λ read. option_map (λ x. (plain_operand x.0, x.1.now)) read ≡ addressing.by_at (sign_at 64 text.now) text.now) }
+// An operand, behind @ or not.
+fn behind(at: bool, operand: Operand) -> Operand
+    ensures with { (values : List Expression) → operand_with result values ≡ deferred_if at (operand_with operand values) }
+    ensures same { has_value result ≡ has_value operand }
 {
-    let Some(rest) = sign(text, b'@') else {
-        return direct(alloc, text);
-    };
-    match direct(alloc, rest)? {
-        None => Ok(None),
-        Some((operand, rest)) => Ok(Some((deferred(operand), rest))),
-    }
+    if at { deferred(operand) } else { operand }
 }
 
-/// The operand at the front of a text, where it ends there.
-pub(crate) fn read_operand(alloc: Global, text: &[u8]) -> Result<Option<(Operand, &[u8])>, NoMemory>
-    ensures { IfOk result (λ read. option_map (λ x. (plain_operand x.0, x.1.now)) read ≡ operand_at text.now) }
+/// The operand at the front of a text, where it ends there; its expression behind those of its statement.
+pub(crate) fn read_operand<'a>(
+    alloc: Global,
+    values: &mut Vec<Expr>,
+    text: &'a [u8],
+) -> Result<Option<(Operand, &'a [u8])>, NoMemory>
+    ensures { IfOk result (λ read. OperandRead (map plain values.old.items) (map plain values.new.items) (option_map (λ x. (x.0, x.1.now)) read) (operand_at text.now)) }
 {
-    by_at(alloc, text)
+    let (at, rest) = past_at(text);
+    let Some((operand, rest)) = direct(alloc, values, rest)? else {
+        return Ok(None);
+    };
+    Ok(Some((behind(at, operand), rest)))
 }

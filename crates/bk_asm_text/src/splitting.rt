@@ -7,17 +7,17 @@ ghost use Rattle.bk_base.specs.Faults.{Gives, Refuses};
 ghost use Rattle.bk_asm_text.specs.Before.{before_fault, plain_front};
 ghost use Rattle.bk_asm_text.specs.Fault.{fault_at};
 ghost use Rattle.bk_asm_text.specs.First.{IsFirstOutside};
-ghost use Rattle.bk_asm_text.specs.Plain.{plain_statement};
+ghost use Rattle.bk_asm_text.specs.Flat.{plain_statements};
 ghost use Rattle.bk_asm_text.specs.Statements.{lines_of, statements_of};
 ghost use Rattle.bk_asm_text.specs.declared.fault.AsmFault.{AsmFault};
 ghost use Rattle.bk_asm_text.specs.declared.fault.AsmKind.TheVariants as kind;
 
 use crate::fault::{AsmFault, AsmKind, AsmStop};
 use crate::line::{are_of_text, read_statement};
-use crate::statement::{Statement, Statements};
+use crate::statements::{Parts, Statements};
 use bk_base::NoMemory;
 use bk_expr::is_of_text;
-use std::alloc::{AllocFailed, Global};
+use std::alloc::Global;
 
 // The place of the first LF.
 fn end_of_line(text: &[u8]) -> Option<usize>
@@ -103,22 +103,6 @@ fn next_line(text: &[u8]) -> Option<Line<'_>>
     }
 }
 
-// What a statement that finds no room ends in; apart, as it is seldom.
-#[inline(never)]
-fn no_room(_statement: AllocFailed<Statement>) -> NoMemory {
-    NoMemory
-}
-
-// A statement behind others.
-fn push(statements: &mut Vec<Statement>, statement: Statement) -> Result<(), NoMemory>
-    ensures { OnOk result (statements.new.items ≡ statements.old.items ++ statement ∷ []) }
-{
-    match statements.push(statement) {
-        Ok(()) => Ok(()),
-        Err(failed) => Err(no_room(failed)),
-    }
-}
-
 fn form(line: u32) -> AsmFault
     ensures { result ≡ fault_at line kind.Form }
 {
@@ -128,19 +112,10 @@ fn form(line: u32) -> AsmFault
     }
 }
 
-fn gathered(statements: Vec<Statement>, fault: Option<AsmFault>) -> Front
-    ensures { plain_front result ≡ record { statements = map plain_statement statements.items; fault = fault } }
-{
-    Front {
-        statements: Statements::from_vec(statements),
-        fault,
-    }
-}
-
 /// The statements of the lines before the first one outside the grammar, and the fault of that line, if there is one.
 #[derive(Drop)]
-pub struct Front {
-    pub statements: Statements,
+pub struct Front<'a> {
+    pub statements: Statements<'a>,
     pub fault: Option<AsmFault>,
 }
 
@@ -149,26 +124,33 @@ pub struct Front {
 /// Lines end with LF, which the last may lack. The fault has the kind `Form` and the line's number; without one these are the
 /// statements of all lines. It takes memory for the statements.
 #[tactic(auto, using(crate::proofs::Before::before_none, crate::proofs::Before::before_end))]
-pub fn split_front(alloc: Global, text: &[u8]) -> Result<Front, NoMemory>
+pub fn split_front(alloc: Global, text: &[u8]) -> Result<Front<'_>, NoMemory>
     ensures { IfOk result (λ front. plain_front front ≡ before_fault text.now) }
 {
-    let mut statements = Vec::new(alloc);
+    let mut statements = Statements::new(alloc);
+    let mut parts = Parts::new(alloc);
     let mut at = 1u32;
     let mut rest = text;
     'each: while let Some(one) = next_line(rest) {
-        let Some(statement) = read_statement(alloc, at, one.line, one.clean)? else {
-            return Ok(gathered(statements, Some(form(at))));
+        let Some(body) = read_statement(alloc, &mut parts, at, one.line, one.clean)? else {
+            return Ok(Front {
+                statements,
+                fault: Some(form(at)),
+            });
         };
-        push(&mut statements, statement)?;
+        statements.push(at, &mut parts, body)?;
         at = at.saturating_add(1);
         rest = one.after;
     }
-    Ok(gathered(statements, None))
+    Ok(Front {
+        statements,
+        fault: None,
+    })
 }
 
 #[tactic(auto, using(crate::proofs::Before::statements_whole))]
-fn split_lines(alloc: Global, text: &[u8]) -> Result<Statements, AsmStop>
-    ensures { Gives (map plain_statement) result (statements_of text.now) }
+fn split_lines(alloc: Global, text: &[u8]) -> Result<Statements<'_>, AsmStop>
+    ensures { Gives plain_statements result (statements_of text.now) }
 {
     let front = split_front(alloc, text)?;
     match front.fault {
@@ -181,12 +163,12 @@ fn split_lines(alloc: Global, text: &[u8]) -> Result<Statements, AsmStop>
 ///
 /// Lines end with LF, which the last may lack. `Bad` comes exactly at the first line outside the grammar, with the kind `Form`
 /// and the line's number. It takes memory for the statements.
-pub fn split(alloc: Global, text: &[u8]) -> Result<Statements, AsmStop>
-    ensures ok { IfOk result (λ statements. statements_of text.now ≡ Ok (map plain_statement statements)) }
+pub fn split(alloc: Global, text: &[u8]) -> Result<Statements<'_>, AsmStop>
+    ensures ok { IfOk result (λ statements. statements_of text.now ≡ Ok (plain_statements statements)) }
     ensures bad { IfErr result (λ stop. Refuses stop (statements_of text.now)) }
 
     // One statement a line.
-    ensures lines { IfOk result (λ statements. length statements ≡ length (lines_of text.now)) }
+    ensures lines { IfOk result (λ statements. length (plain_statements statements) ≡ length (lines_of text.now)) }
 {
     split_lines(alloc, text)
 }

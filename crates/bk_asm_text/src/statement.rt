@@ -1,31 +1,24 @@
-// Statements, and the lists in them.
+// What a line says.
 
 use crate::operand::Operand;
-use bk_base::{Bytes, Sequence};
 use bk_expr::Expr;
 
-/// A label of a statement: a name in upper case, or a local label by its number.
-#[derive(Drop)]
-pub enum Label {
-    Name(Bytes),
+/// A label of a statement: a name as it is written, or a local label by its number.
+#[derive(Clone, Copy)]
+pub enum Label<'a> {
+    Name(&'a [u8]),
     Local(u16),
 }
 
-/// The labels of a statement, in their order.
-pub type Labels = Sequence<Label>;
-
-/// A list of expressions.
-pub type Exprs = Sequence<Expr>;
-
-/// What a statement is, its labels apart. `base` is the instruction's word with all fields 0.
-#[derive(Drop)]
-pub enum Body {
+/// What a statement is, its labels and its expressions apart. `base` is the instruction's word with all fields 0, and `E` the next
+/// of the statement's expressions.
+#[derive(Clone, Copy)]
+pub enum Body<'a> {
     /// Nothing, or a comment.
     Nothing,
-    /// `name=E`; the name is in upper case.
+    /// `name=E`, the name as it is written.
     Assign {
-        name: Bytes,
-        value: Expr,
+        name: &'a [u8],
     },
     /// `OP src,dst`.
     Double {
@@ -61,54 +54,45 @@ pub enum Body {
     /// `SOB R,E`.
     Sob {
         reg: u8,
-        to: Expr,
     },
     /// A branch to E.
     Branch {
         base: u16,
-        to: Expr,
     },
     /// `MARK E`.
-    Mark {
-        count: Expr,
-    },
+    Mark,
     /// `SPL E`.
-    Spl {
-        level: Expr,
-    },
-    /// EMT or TRAP with E, or with nothing.
+    Spl,
+    /// EMT or TRAP, with E where it is given.
     Number {
         base: u16,
-        n: Option<Expr>,
+        given: bool,
     },
     /// An instruction without fields.
     Alone {
         base: u16,
     },
     /// `.WORD E,E,..`.
-    WordList(Exprs),
+    WordList,
     /// `.BYTE E,E,..`.
-    ByteList(Exprs),
+    ByteList,
     /// `.ASCII` with a string, or `.ASCIZ`, which adds a zero byte.
     Ascii {
-        text: Bytes,
+        text: &'a [u8],
         zero: bool,
     },
     /// `.BLKW E`: so many zero words.
-    Blkw {
-        count: Expr,
-    },
+    Blkw,
     /// `.EVEN`.
     Even,
 }
 
-/// What a line says. The line's number counts from 1; one past 4,294,967,295 is kept as that number.
-#[derive(Drop)]
-pub struct Statement {
+/// What a line says. The line's number counts from 1; one past 4,294,967,295 is kept as that number. Labels and expressions stand
+/// in their order.
+#[derive(Clone, Copy)]
+pub struct Statement<'a> {
     pub line: u32,
-    pub labels: Labels,
-    pub body: Body,
+    pub labels: &'a [Label<'a>],
+    pub values: &'a [Expr],
+    pub body: Body<'a>,
 }
-
-/// The statements of a text, one for each of its lines.
-pub type Statements = Sequence<Statement>;

@@ -4,7 +4,7 @@ use bk_asm_text::{AsmFault, AsmKind, AsmStop, Body, split};
 use std::test::Fail;
 
 // A word for what a statement is.
-fn word_of(body: &Body) -> &'static str {
+fn word_of(body: Body<'_>) -> &'static str {
     match body {
         Body::Nothing => "nothing",
         Body::Assign { .. } => "assign",
@@ -16,14 +16,15 @@ fn word_of(body: &Body) -> &'static str {
         Body::Rts { .. } => "rts",
         Body::Sob { .. } => "sob",
         Body::Branch { .. } => "branch",
-        Body::Mark { .. } => "mark",
-        Body::Spl { .. } => "spl",
+        Body::Mark => "mark",
+        Body::Spl => "spl",
         Body::Number { .. } => "number",
         Body::Alone { .. } => "alone",
-        Body::WordList(_) => "words",
-        Body::ByteList(_) => "bytes",
-        Body::Ascii { .. } => "ascii",
-        Body::Blkw { .. } => "blkw",
+        Body::WordList => "words",
+        Body::ByteList => "bytes",
+        Body::Ascii { zero: false, .. } => "ascii",
+        Body::Ascii { zero: true, .. } => "asciz",
+        Body::Blkw => "blkw",
         Body::Even => "even",
     }
 }
@@ -51,7 +52,7 @@ fn reads_every_form(rt: HostRuntime) -> Result<(), Fail> {
         (".WORD 1,A,-'a\n", "words"),
         (".EVEN: .byte 'A, '; ,377\n", "bytes"),
         (".ASCII \"a;b\"; c\n", "ascii"),
-        (".asciz x x\n", "ascii"),
+        (".asciz x x\n", "asciz"),
         (".BLKW 10.\n", "blkw"),
         (".EVEN", "even"),
     ];
@@ -60,14 +61,14 @@ fn reads_every_form(rt: HostRuntime) -> Result<(), Fail> {
         text.push_str(line)?;
     }
     let statements = split(rt.alloc(), text.as_bytes())?;
-    let statements = statements.as_slice();
     assert_eq!(rt; statements.len(), rows.len());
+    let mut rest = statements.all();
     for (n, (_, word)) in rows.iter().enumerate() {
-        assert!(rt; n < statements.len());
-        let statement = &statements[n];
+        let statement = rest.next().expect(&rt, "a statement");
         assert_eq!(rt; statement.line as usize, n + 1);
-        assert_eq!(rt; word_of(&statement.body), *word);
+        assert_eq!(rt; word_of(statement.body), *word);
     }
+    assert!(rt; rest.next().is_none());
     Ok(())
 }
 

@@ -2,9 +2,7 @@ use Rattle.std.proofs.Common.{◌≡◌, ℕ, List, [], Ok, ap, sym, subst, ◌�
 use Rattle.std.specs.Prelude.{map}
 use Rattle.std.proofs.lemmas.Result.{err_from_is_err_and}
 use Rattle.bk_base.specs.Faults.{Refuses}
-use Rattle.bk_asm_text.specs.declared.statement.Statement.{Statement}
 use Rattle.bk_asm_text.specs.Before.{plain_front}
-use Rattle.bk_asm_text.specs.Plain.{plain_statement}
 use Rattle.bk_asm.specs.declared.program.Program.{Program}
 use Rattle.bk_asm.specs.declared.program.Symbol.{Symbol}
 use Rattle.bk_asm.specs.declared.place.Placed.{Placed as PlacedInMemory}
@@ -25,17 +23,14 @@ returns-in_err-placed c =
     let front = plain_front c.in_ok-front.front in
     let origin = c.args.origin in
     let stop = c.in_err-placed.field-0.0 in
-    let refuses : Refuses stop (settle origin [] (start origin) front.statements) =
-    subst (λ (xs : List Statement). Refuses stop (settle origin [] (start origin) (map plain_statement xs))) c.as_slice.ensures c.in_err-placed.ensures in
-    rw (p.1, p.2, assembled_from c.args.text.now origin front c.in_ok-front.ensures) (unsettled origin front.fault (settle origin [] (start origin) front.statements) stop refuses)
+    rw (p.1, p.2, assembled_from c.args.text.now origin front c.in_ok-front.ensures) (unsettled origin front.fault (settle origin [] (start origin) front.statements) stop c.in_err-placed.ensures)
 
 pub returns-in-Some : goal.returns-in-Some
 returns-in-Some c =
     let front = plain_front c.in_ok-front.front in
     let origin = c.args.origin in
-    let settled = ap (λ (xs : List Statement). settle origin [] (start origin) (map plain_statement xs)) (sym c.as_slice.ensures) ∙ c.in_ok-placed.ensures in
     assembled_from c.args.text.now origin front c.in_ok-front.ensures
-    ∙ outside origin c.in-Some.fault front.fault (settle origin [] (start origin) front.statements) (map plain_placed c.in_ok-placed.placed.items, seen c.in_ok-placed.table) settled c.in-Some.is
+    ∙ outside origin c.in-Some.fault front.fault (settle origin [] (start origin) front.statements) (map plain_placed c.in_ok-placed.placed.items, seen c.in_ok-placed.table) c.in_ok-placed.ensures c.in-Some.is
 
 pub returns-in_err-bytes : goal.returns-in_err-bytes
 returns-in_err-bytes c =
@@ -44,21 +39,19 @@ returns-in_err-bytes c =
     let origin = c.args.origin in
     let stop = c.in_err-bytes.field-0.0 in
     let defined = seen c.in_ok-placed.table in
-    let settled = ap (λ (xs : List Statement). settle origin [] (start origin) (map plain_statement xs)) (sym c.as_slice.ensures) ∙ c.in_ok-placed.ensures in
     let refuses : Refuses stop (coded defined [] (map plain_placed c.in_ok-placed.placed.items)) =
-    subst (λ (xs : List PlacedInMemory). Refuses stop (coded defined [] (map plain_placed xs))) c.as_slice-2.ensures.value c.in_err-bytes.ensures in
+    subst (λ (xs : List PlacedInMemory). Refuses stop (coded defined [] (map plain_placed xs))) c.as_slice.ensures.value c.in_err-bytes.ensures in
     rw (p.1, p.2, assembled_from c.args.text.now origin front c.in_ok-front.ensures)
-    (uncoded origin front.fault (settle origin [] (start origin) front.statements) (map plain_placed c.in_ok-placed.placed.items, defined) stop settled c.in_default.is refuses)
+    (uncoded origin front.fault (settle origin [] (start origin) front.statements) (map plain_placed c.in_ok-placed.placed.items, defined) stop c.in_ok-placed.ensures c.in_default.is refuses)
 
 pub returns : goal.returns
 returns c =
     let front = plain_front c.in_ok-front.front in
     let origin = c.args.origin in
     let defined = seen c.in_ok-placed.table in
-    let settled = ap (λ (xs : List Statement). settle origin [] (start origin) (map plain_statement xs)) (sym c.as_slice.ensures) ∙ c.in_ok-placed.ensures in
     let is : coded defined [] (map plain_placed c.in_ok-placed.placed.items) ≡ Ok c.in_ok-bytes.bytes.items =
-    subst (λ (xs : List PlacedInMemory). coded defined [] (map plain_placed xs) ≡ Ok c.in_ok-bytes.bytes.items) c.as_slice-2.ensures.value c.in_ok-bytes.ensures in
-    let words : words_of c.in_ok-bytes.bytes.items ≡ c.in_ok-words.words = ap words_of (sym c.as_slice-3.ensures.value) ∙ sym c.in_ok-words.ensures in
+    subst (λ (xs : List PlacedInMemory). coded defined [] (map plain_placed xs) ≡ Ok c.in_ok-bytes.bytes.items) c.as_slice.ensures.value c.in_ok-bytes.ensures in
+    let words : words_of c.in_ok-bytes.bytes.items ≡ c.in_ok-words.words = ap words_of (sym c.as_slice-2.ensures.value) ∙ sym c.in_ok-words.ensures in
     assembled_from c.args.text.now origin front c.in_ok-front.ensures
-    ∙ all_coded origin front.fault (settle origin [] (start origin) front.statements) (map plain_placed c.in_ok-placed.placed.items, defined) c.in_ok-bytes.bytes.items settled c.in_default.is is
+    ∙ all_coded origin front.fault (settle origin [] (start origin) front.statements) (map plain_placed c.in_ok-placed.placed.items, defined) c.in_ok-bytes.bytes.items c.in_ok-placed.ensures c.in_default.is is
     ∙ (λ i. Ok (program_of origin (words i) (sym c.in_ok-symbols.ensures i)))

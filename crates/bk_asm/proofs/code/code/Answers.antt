@@ -12,20 +12,20 @@ use Rattle.bk_asm.proofs.code.code.Goals as goal
 pub loop-one-preserved : goal.loop-one-preserved
 loop-one-preserved c =
     let next = drop_next c.args.placed.now c.loop-one.one-index c.one-item.result c.loop-one-test.true c.one-item.is in
-    sym (coded_next (seen c.args.table.now) c.loop-one.out.items c.put_statement.new.out.items (plain_placed c.one-item.result) _ c.in_ok-put_statement.ensures.ok)
-    ∙ ap (λ xs. coded (seen c.args.table.now) c.loop-one.out.items (map plain_placed xs)) (sym next)
+    sym (coded_next (seen c.args.table.now) c.loop-one.coding.bytes.items c.put_statement.new.coding.bytes.items (plain_placed c.one-item.result) _ c.in_ok-put_statement.ensures.ok)
+    ∙ ap (λ xs. coded (seen c.args.table.now) c.loop-one.coding.bytes.items (map plain_placed xs)) (sym next)
     ∙ c.loop-one.invariant
 
 pub returns-in_err-put_statement : goal.returns-in_err-put_statement
 returns-in_err-put_statement c =
     let p = err_from_is_err_and c.from_residual.result c.from_residual.ensures.1 in
     let next = drop_next c.args.placed.now c.loop-one.one-index c.one-item.result c.loop-one-test.true c.one-item.is in
-    let total = ap (λ xs. coded (seen c.args.table.now) c.loop-one.out.items (map plain_placed xs)) (sym next) ∙ c.loop-one.invariant in
+    let total = ap (λ xs. coded (seen c.args.table.now) c.loop-one.coding.bytes.items (map plain_placed xs)) (sym next) ∙ c.loop-one.invariant in
     rw (p.1, p.2) (subst (Refuses c.in_err-put_statement.field-0.0) total
-    (coded_stops (seen c.args.table.now) c.loop-one.out.items (plain_placed c.one-item.result) _ c.in_err-put_statement.field-0.0 c.in_err-put_statement.ensures.bad))
+    (coded_stops (seen c.args.table.now) c.loop-one.coding.bytes.items (plain_placed c.one-item.result) _ c.in_err-put_statement.field-0.0 c.in_err-put_statement.ensures.bad))
 
 pub returns : goal.returns
 returns c =
     sym c.loop-one.invariant
-    ∙ ap (λ xs. coded (seen c.args.table.now) c.loop-one.out.items (map plain_placed xs)) (drop_all c.loop-one.one-index c.args.placed.now c.loop-one-test.false)
-    ∙ coded_end (seen c.args.table.now) c.loop-one.out.items
+    ∙ ap (λ xs. coded (seen c.args.table.now) c.loop-one.coding.bytes.items (map plain_placed xs)) (drop_all c.loop-one.one-index c.args.placed.now c.loop-one-test.false)
+    ∙ coded_end (seen c.args.table.now) c.loop-one.coding.bytes.items

@@ -1,4 +1,4 @@
-use Rattle.bk_asm_text.proofs.Statements.{one_a_line}
+use Rattle.bk_asm_text.proofs.Said.{one_a_line}
 use Rattle.bk_asm_text.proofs.splitting.split.Goals as goal
 
 pub returns-clause-lines : goal.returns-clause-lines

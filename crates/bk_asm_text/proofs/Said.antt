@@ -1,14 +1,14 @@
 -- The statements of lines, by the first line.
 use Rattle.std.proofs.Common.{◌≡◌, ℕ, ◌+◌, List, [], ◌∷◌, ◌++◌, length, Some, None, Ok, Err, refl, ap, arith, length-append}
-use Rattle.std.specs.Prelude.{Option, Result, IfOk, map}
-use Rattle.std.proofs.lemmas.List.{length-map}
+use Rattle.std.specs.Prelude.{Option, Result, IfOk}
 use Rattle.bk_base.specs.Faults.{Gives}
 use Rattle.bk_base.specs.declared.stop.Stop.{Stop}
 use Rattle.bk_asm_text.specs.declared.fault.AsmFault.{AsmFault}
 use Rattle.bk_asm_text.specs.declared.fault.AsmKind.TheVariants as kind
-use Rattle.bk_asm_text.specs.declared.statement.Statement.{Statement}
+use Rattle.bk_asm_text.specs.declared.statements.Statements.{Statements}
 use Rattle.bk_asm_text.specs.Fault.{fault}
-use Rattle.bk_asm_text.specs.Plain.{PlainStatement, plain_statement}
+use Rattle.bk_asm_text.specs.Flat.{plain_statements}
+use Rattle.bk_asm_text.specs.Plain.{PlainStatement}
 use Rattle.bk_asm_text.specs.Statements.{statement_of, next_line, then_others, statements_at, lines_of, statements_of}
 
 -- a line that says a statement
@@ -49,10 +49,10 @@ statements-length at before (line ∷ lines) all e =
           let long : length all ≡ length (before ++ statement ∷ []) + length lines = rest (before ++ statement ∷ []) e in
           omega (arith, long, length-append before (statement ∷ []))
 
-pub one_a_line : (result : Result (List Statement) (Stop AsmFault)) (text : List ℕ) → Gives (map plain_statement) result (statements_of text)
-    → IfOk result (λ statements. length statements ≡ length (lines_of text))
+pub one_a_line : (result : Result Statements (Stop AsmFault)) (text : List ℕ) → Gives plain_statements result (statements_of text)
+    → IfOk result (λ statements. length (plain_statements statements) ≡ length (lines_of text))
 unfolding statements_of
 one_a_line (Ok statements) text read =
-    let long : length (map plain_statement statements) ≡ 0 + length (lines_of text) = statements-length 1 [] (lines_of text) (map plain_statement statements) read in
-    omega (arith, long, length-map statements plain_statement)
+    let long : length (plain_statements statements) ≡ 0 + length (lines_of text) = statements-length 1 [] (lines_of text) (plain_statements statements) read in
+    omega (arith, long)
 one_a_line (Err stop) text read = tt

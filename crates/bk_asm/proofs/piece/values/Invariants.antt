@@ -1,9 +1,0 @@
-use Rattle.std.proofs.Common.{◌≡◌, take}
-use Rattle.std.specs.Prelude.{map}
-use Rattle.bk_expr.specs.Tree.{plain}
-use Rattle.bk_asm.specs.Pieces.{Value}
-use Rattle.bk_asm.specs.Seen.{plain_piece}
-use Rattle.bk_asm.proofs.piece.values.Given as goal
-
-abbrev pub invariant-loop-expr : goal.invariant-loop-expr
-invariant-loop-expr l = map plain_piece l.list.items ≡ map Value (map plain (take l.expr-index l.exprs))
